@@ -1,0 +1,4 @@
+pub mod Craft
+pub mod Inside
+pub mod NotLess
+pub mod Pack
