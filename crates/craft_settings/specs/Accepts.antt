@@ -1,0 +1,31 @@
+-- The settings that a file gives.
+use Rattle.std.specs.Prelude.{◌≡◌, ◌≤◌, ℕ, List, length, None, Some}
+use Rattle.std.specs.Int.{bit_at}
+use Rattle.toml.specs.Data.{Members}
+use Rattle.craft_settings.specs.Ranges.{SettingsFields}
+use Rattle.craft_settings.specs.Keys.{level_key, cp_key, durability_key, progress_key, quality_key, initial_quality_key, target_key, backload_key}
+use Rattle.craft_settings.specs.Document.{document}
+use Rattle.craft_settings.specs.Names.{flag_at, is_ruled_out, bit}
+use Rattle.craft_settings.specs.Reading.{number_at, base_progress, base_quality, first_fault, max_length}
+
+-- the document gives these settings
+pub record Gives (doc : Members) (g : SettingsFields) : Type 0 where
+  pub level : g.level ≡ number_at doc level_key 1
+  pub cp : g.cp ≡ number_at doc cp_key 0
+  pub durability : g.durability ≡ number_at doc durability_key 10
+  pub progress : g.progress ≡ number_at doc progress_key 1
+  pub quality : g.quality ≡ number_at doc quality_key 0
+  pub initial : g.initial ≡ number_at doc initial_quality_key 0
+  pub base_progress : g.base_progress ≡ base_progress doc
+  pub base_quality : g.base_quality ≡ base_quality doc
+  pub forbidden : (n : ℕ) → bit_at g.forbidden n ≡ bit (is_ruled_out doc n)
+  pub target : g.target ≡ number_at doc target_key g.quality
+  pub backload : g.backload ≡ flag_at doc backload_key
+
+-- the bytes are an accepted file with these settings
+pub record Accepts (bytes : List ℕ) (g : SettingsFields) : Type 0 where
+  pub short : length bytes ≤ max_length
+  pub doc : Members
+  pub is_document : document bytes ≡ Some doc
+  pub no_fault : first_fault doc ≡ None
+  pub gives : Gives doc g

@@ -1,0 +1,12 @@
+pub mod Inside
+pub mod Ranges
+pub mod Rules
+pub mod Keys
+pub mod Document
+pub mod Fault
+pub mod Unknown
+pub mod Names
+pub mod Reading
+pub mod Accepts
+pub mod Steps
+pub mod FirstVersion

@@ -1,0 +1,603 @@
+use crate::{SettingsFault, read};
+use std::alloc::{AllocError, Global};
+use std::test::Fail;
+
+// An ordinary file with base values.
+const ORDINARY: &str =
+    "[crafter]\nlevel = 5\ncp = 18\n[recipe]\ndurability = 20\nprogress = 100\nquality = 500\n[base]\nprogress = 100\nquality = 100\n";
+
+// A file with each key of the stats form.
+const STATS: &str =
+    "version = 2\ncrafter = {level = 50, cp = 180, craftsmanship = 240, control = 200}\nactions = {forbid = [\"observe\"], backload = true}\n[recipe]\ndurability = 40\nprogress = 150\nquality = 400\ninitial_quality = 7\nprogress_div = 50\nquality_div = 30\nprogress_mod = 80\nquality_mod = 70\npenalty = true\ntarget = 300\ntrained_eye = true\n";
+
+// A file with each key of the base form that the other lacks.
+const BASE: &str =
+    "version = 1\n[crafter]\nlevel = 5\ncp = 18\n[recipe]\ndurability = 20\nprogress = 100\nquality = 500\n[base]\nprogress = 120\nquality = 90\n";
+
+// The variant, the path or name, and the number.
+fn told(fault: &SettingsFault) -> (&'static str, &[u8], i64) {
+    match fault {
+        SettingsFault::TooLong => ("TooLong", b"", 0),
+        SettingsFault::NotToml => ("NotToml", b"", 0),
+        SettingsFault::UnknownKey { path } => ("UnknownKey", path.bytes(), 0),
+        SettingsFault::Missing { path } => ("Missing", path.text().as_bytes(), 0),
+        SettingsFault::WrongKind { path } => ("WrongKind", path.text().as_bytes(), 0),
+        SettingsFault::OutOfRange { path, value } => {
+            ("OutOfRange", path.text().as_bytes(), *value)
+        }
+        SettingsFault::TwoBases => ("TwoBases", b"", 0),
+        SettingsFault::UnknownAction { name } => ("UnknownAction", name.bytes(), 0),
+        SettingsFault::WantMemory => ("WantMemory", b"", 0),
+    }
+}
+
+fn is_refused(alloc: Global, bytes: &[u8], kind: &str, path: &str, value: i64) -> bool {
+    match read(alloc, bytes) {
+        Ok(_) => false,
+        Err(fault) => told(&fault) == (kind, path.as_bytes(), value),
+    }
+}
+
+// The settings with these fields, in their order.
+fn gives(alloc: Global, bytes: &[u8], fields: [u32; 11]) -> bool {
+    match read(alloc, bytes) {
+        Ok(g) => {
+            let backload = if g.backload { 1 } else { 0 };
+            fields
+                == [
+                    g.level,
+                    g.cp,
+                    g.durability,
+                    g.progress,
+                    g.quality,
+                    g.initial,
+                    g.base_progress,
+                    g.base_quality,
+                    g.forbidden,
+                    g.target,
+                    backload,
+                ]
+        }
+        Err(_) => false,
+    }
+}
+
+// The text with one part in place of another.
+fn edited(alloc: Global, text: &str, old: &str, new: &str) -> Result<String, AllocError> {
+    match text.split_once(old) {
+        Some((before, after)) => format!(in alloc; "{before}{new}{after}"),
+        None => String::from_str(alloc, "no such part"),
+    }
+}
+
+fn is_edit_refused(
+    alloc: Global,
+    text: &str,
+    edit: (&str, &str),
+    told: (&str, &str, i64),
+) -> Result<bool, AllocError> {
+    let text = edited(alloc, text, edit.0, edit.1)?;
+    Ok(is_refused(alloc, text.as_bytes(), told.0, told.1, told.2))
+}
+
+// Whether each number of a table of the file is refused as a flag, below its range and above it.
+fn are_checked(
+    alloc: Global,
+    text: &str,
+    table: &str,
+    numbers: &[(&str, i64, i64)],
+) -> Result<bool, AllocError> {
+    for (part, below, above) in numbers {
+        let Some((name, _)) = part.split_once(" = ") else {
+            return Ok(false);
+        };
+        let path = format!(in alloc; "{table}.{name}")?;
+        let flag = format!(in alloc; "{name} = true")?;
+        let low = format!(in alloc; "{name} = {below}")?;
+        let high = format!(in alloc; "{name} = {above}")?;
+        let path = path.as_str();
+        let refused = is_edit_refused(alloc, text, (part, flag.as_str()), ("WrongKind", path, 0))?
+            & is_edit_refused(
+                alloc,
+                text,
+                (part, low.as_str()),
+                ("OutOfRange", path, *below),
+            )?
+            & is_edit_refused(
+                alloc,
+                text,
+                (part, high.as_str()),
+                ("OutOfRange", path, *above),
+            )?;
+        if !refused {
+            return Ok(false);
+        }
+    }
+    Ok(true)
+}
+
+// The numbers, with one below and one above the range.
+const CRAFTER: [(&str, i64, i64); 4] = [
+    ("level = 50", 0, 101),
+    ("cp = 180", -1, 1001),
+    ("craftsmanship = 240", -1, 10001),
+    ("control = 200", -1, 10001),
+];
+
+const RECIPE: [(&str, i64, i64); 9] = [
+    ("durability = 40", 5, 105),
+    ("progress = 150", 0, 100001),
+    ("quality = 400", -1, 100001),
+    ("initial_quality = 7", -1, 100001),
+    ("progress_div = 50", 0, 1001),
+    ("quality_div = 30", 0, 1001),
+    ("progress_mod = 80", 0, 101),
+    ("quality_mod = 70", 0, 101),
+    ("target = 300", -1, 100001),
+];
+
+const BASE_VALUES: [(&str, i64, i64); 2] = [("progress = 120", 0, 5001), ("quality = 90", 0, 5001)];
+
+#[test]
+fn numbers(rt: HostRuntime) -> Result<(), Fail> {
+    let alloc = rt.alloc();
+    assert!(rt; are_checked(alloc, STATS, "crafter", &CRAFTER)?);
+    assert!(rt; are_checked(alloc, STATS, "recipe", &RECIPE)?);
+    assert!(rt; are_checked(alloc, BASE, "base", &BASE_VALUES)?);
+    Ok(())
+}
+
+// Keys that the form needs.
+const NEEDED: [(&str, &str); 10] = [
+    (
+        "crafter = {level = 50, cp = 180, craftsmanship = 240, control = 200}\n",
+        "crafter.level",
+    ),
+    ("level = 50, ", "crafter.level"),
+    ("cp = 180, ", "crafter.cp"),
+    ("craftsmanship = 240, ", "crafter.craftsmanship"),
+    (", control = 200", "crafter.control"),
+    ("durability = 40\n", "recipe.durability"),
+    ("progress = 150\n", "recipe.progress"),
+    ("quality = 400\n", "recipe.quality"),
+    ("progress_div = 50\n", "recipe.progress_div"),
+    ("quality_div = 30\n", "recipe.quality_div"),
+];
+
+#[test]
+fn missing_keys(rt: HostRuntime) -> Result<(), Fail> {
+    let alloc = rt.alloc();
+    for (part, path) in NEEDED {
+        assert!(rt;
+            is_edit_refused(alloc, STATS, (part, ""), ("Missing", path, 0))?,
+            "{path}"
+        );
+    }
+    Ok(())
+}
+
+#[test]
+fn other_edits_of_stats(rt: HostRuntime) -> Result<(), Fail> {
+    let alloc = rt.alloc();
+    for (edit, told) in [
+        (
+            (
+                "crafter = {level = 50, cp = 180, craftsmanship = 240, control = 200}",
+                "crafter = 1",
+            ),
+            ("WrongKind", "crafter", 0),
+        ),
+        (
+            ("durability = 40", "durability = 42"),
+            ("OutOfRange", "recipe.durability", 42),
+        ),
+        (
+            ("penalty = true", "penalty = 1"),
+            ("WrongKind", "recipe.penalty", 0),
+        ),
+        (
+            ("trained_eye = true", "trained_eye = 1"),
+            ("WrongKind", "recipe.trained_eye", 0),
+        ),
+        (
+            (
+                "actions = {forbid = [\"observe\"], backload = true}",
+                "actions = 1",
+            ),
+            ("WrongKind", "actions", 0),
+        ),
+        (
+            ("[\"observe\"]", "[\"observe\", 1]"),
+            ("WrongKind", "actions.forbid", 0),
+        ),
+        (
+            ("backload = true", "backload = 1"),
+            ("WrongKind", "actions.backload", 0),
+        ),
+        (
+            ("[recipe]\n", "[recipe]\nstars = 1\n"),
+            ("UnknownKey", "recipe.stars", 0),
+        ),
+        (
+            (
+                "[\"observe\"]",
+                "[\"basic_synthesis\", \"basic_tuch\", \"x\"]",
+            ),
+            ("UnknownAction", "basic_tuch", 0),
+        ),
+        (
+            ("version = 2\n", ""),
+            ("UnknownKey", "recipe.trained_eye", 0),
+        ),
+    ] {
+        assert!(rt; is_edit_refused(alloc, STATS, edit, told)?, "{}", edit.1);
+    }
+    Ok(())
+}
+
+#[test]
+fn absent_keys_of_stats(rt: HostRuntime) -> Result<(), Fail> {
+    let alloc = rt.alloc();
+    for (old, new, fields) in [
+        (
+            "version",
+            "version",
+            [50, 180, 40, 150, 400, 7, 40, 71, 8, 300, 1],
+        ),
+        (
+            "initial_quality = 7\n",
+            "",
+            [50, 180, 40, 150, 400, 0, 40, 71, 8, 300, 1],
+        ),
+        (
+            "progress_mod = 80\n",
+            "",
+            [50, 180, 40, 150, 400, 7, 50, 71, 8, 300, 1],
+        ),
+        (
+            "quality_mod = 70\n",
+            "",
+            [50, 180, 40, 150, 400, 7, 40, 101, 8, 300, 1],
+        ),
+        (
+            "penalty = true\n",
+            "",
+            [50, 180, 40, 150, 400, 7, 50, 101, 8, 300, 1],
+        ),
+        (
+            "target = 300\n",
+            "",
+            [50, 180, 40, 150, 400, 7, 40, 71, 8, 400, 1],
+        ),
+        (
+            "trained_eye = true\n",
+            "",
+            [50, 180, 40, 150, 400, 7, 40, 71, 33554440, 300, 1],
+        ),
+        (
+            "actions = {forbid = [\"observe\"], backload = true}\n",
+            "",
+            [50, 180, 40, 150, 400, 7, 40, 71, 0, 300, 0],
+        ),
+        (
+            "forbid = [\"observe\"], ",
+            "",
+            [50, 180, 40, 150, 400, 7, 40, 71, 0, 300, 1],
+        ),
+        (
+            ", backload = true",
+            "",
+            [50, 180, 40, 150, 400, 7, 40, 71, 8, 300, 0],
+        ),
+        (
+            "[\"observe\"]",
+            "[\"observe\", \"trained_eye\", \"observe\"]",
+            [50, 180, 40, 150, 400, 7, 40, 71, 33554440, 300, 1],
+        ),
+        (
+            "trained_eye = true",
+            "trained_eye = false",
+            [50, 180, 40, 150, 400, 7, 40, 71, 33554440, 300, 1],
+        ),
+    ] {
+        let text = edited(alloc, STATS, old, new)?;
+        assert!(rt; gives(alloc, text.as_bytes(), fields), "{old} to {new}");
+    }
+    Ok(())
+}
+
+#[test]
+fn edits_of_base(rt: HostRuntime) -> Result<(), Fail> {
+    let alloc = rt.alloc();
+    for (edit, told) in [
+        (
+            ("version = 1", "version = \"9\""),
+            ("WrongKind", "version", 0),
+        ),
+        (("version = 1", "version = 0"), ("OutOfRange", "version", 0)),
+        (("version = 1", "version = 3"), ("OutOfRange", "version", 3)),
+        (
+            ("[crafter]\nlevel = 5\ncp = 18\n", ""),
+            ("Missing", "crafter.level", 0),
+        ),
+        (
+            (
+                "[recipe]\ndurability = 20\nprogress = 100\nquality = 500\n",
+                "",
+            ),
+            ("Missing", "recipe.durability", 0),
+        ),
+        (
+            (
+                "version = 1\n[crafter]\nlevel = 5\ncp = 18\n[recipe]\ndurability = 20\nprogress = 100\nquality = 500\n",
+                "recipe = 1\ncrafter = {level = 5, cp = 18}\n",
+            ),
+            ("WrongKind", "recipe", 0),
+        ),
+        (
+            ("[base]\nprogress = 120\nquality = 90\n", ""),
+            ("Missing", "crafter.craftsmanship", 0),
+        ),
+        (
+            (
+                "version = 1\n[crafter]\nlevel = 5\ncp = 18\n[recipe]\ndurability = 20\nprogress = 100\nquality = 500\n[base]\nprogress = 120\nquality = 90\n",
+                "base = 1\ncrafter = {level = 5, cp = 18}\n[recipe]\ndurability = 20\nprogress = 100\nquality = 500\n",
+            ),
+            ("WrongKind", "base", 0),
+        ),
+        (
+            ("[base]\nprogress = 120\n", "[base]\n"),
+            ("Missing", "base.progress", 0),
+        ),
+        (("quality = 90\n", ""), ("Missing", "base.quality", 0)),
+    ] {
+        assert!(rt; is_edit_refused(alloc, BASE, edit, told)?, "{}", edit.1);
+    }
+    Ok(())
+}
+
+#[test]
+fn versions_of_base(rt: HostRuntime) -> Result<(), Fail> {
+    let alloc = rt.alloc();
+    for (old, new, fields) in [
+        (
+            "version = 1\n",
+            "",
+            [5, 18, 20, 100, 500, 0, 120, 90, 33554432, 500, 0],
+        ),
+        (
+            "version = 1",
+            "version = 2",
+            [5, 18, 20, 100, 500, 0, 120, 90, 33554432, 500, 0],
+        ),
+    ] {
+        let text = edited(alloc, BASE, old, new)?;
+        assert!(rt; gives(alloc, text.as_bytes(), fields), "{old} to {new}");
+    }
+    Ok(())
+}
+
+#[test]
+fn ordinary_refused(rt: HostRuntime) -> Result<(), Fail> {
+    let alloc = rt.alloc();
+    for (edit, told) in [
+        (
+            ("durability = 20", "durability = 37"),
+            ("OutOfRange", "recipe.durability", 37),
+        ),
+        (
+            ("durability = 20", "durability = 105"),
+            ("OutOfRange", "recipe.durability", 105),
+        ),
+        (
+            ("cp = 18\n", "cp = 18\ncraftsmanship = 100\n"),
+            ("TwoBases", "", 0),
+        ),
+        (
+            ("[recipe]\n", "[recipe]\nstars = 1\n"),
+            ("UnknownKey", "recipe.stars", 0),
+        ),
+        (
+            (
+                "cp = 18\n[recipe]\n",
+                "cp = 18\ncraftsmanship = 100\n[recipe]\nstars = 1\n",
+            ),
+            ("UnknownKey", "recipe.stars", 0),
+        ),
+        (("cp = 18", "cp = \"18\""), ("WrongKind", "crafter.cp", 0)),
+        (
+            ("[base]", "[actions]\nforbid = [\"basic_tuch\"]\n[base]"),
+            ("UnknownAction", "basic_tuch", 0),
+        ),
+        (
+            ("level = 5\n", "level = 5\nlevel = 5\n"),
+            ("NotToml", "", 0),
+        ),
+        (
+            ("level = 5", "level = true"),
+            ("WrongKind", "crafter.level", 0),
+        ),
+        (("cp = 18", "cp = 1001"), ("OutOfRange", "crafter.cp", 1001)),
+        (
+            ("quality = 500", "quality = 500\ntarget = -1"),
+            ("OutOfRange", "recipe.target", -1),
+        ),
+        (
+            ("[crafter]", "version = 3\n[crafter]"),
+            ("OutOfRange", "version", 3),
+        ),
+        (
+            ("[recipe]\n", "[recipe]\ntrained_eye = true\n"),
+            ("UnknownKey", "recipe.trained_eye", 0),
+        ),
+        (
+            (
+                "[crafter]\nlevel",
+                "version = 2\n[crafter]\nstars = 1\nlevel",
+            ),
+            ("UnknownKey", "crafter.stars", 0),
+        ),
+        (
+            ("[base]", "[actions]\nforbid = [\"trained_eye\"]\n[base]"),
+            ("UnknownAction", "trained_eye", 0),
+        ),
+        (
+            (
+                "[crafter]\nlevel",
+                "zeta = 1\nalpha = 1\n[crafter]\nzeta = 1\nlevel",
+            ),
+            ("UnknownKey", "alpha", 0),
+        ),
+        (
+            (
+                "level = 5\ncp = 18\n[recipe]\n",
+                "level = 5\ncp = 18\nzeta = 1\nbeta = 1\n[recipe]\nalpha = 1\n",
+            ),
+            ("UnknownKey", "crafter.beta", 0),
+        ),
+    ] {
+        assert!(rt; is_edit_refused(alloc, ORDINARY, edit, told)?, "{}", edit.1);
+    }
+    Ok(())
+}
+
+#[test]
+fn ordinary_given(rt: HostRuntime) -> Result<(), Fail> {
+    let alloc = rt.alloc();
+    for (old, new, fields) in [
+        (
+            "level = 5",
+            "level = 5",
+            [5, 18, 20, 100, 500, 0, 100, 100, 33554432, 500, 0],
+        ),
+        (
+            "durability = 20",
+            "durability = 100",
+            [5, 18, 100, 100, 500, 0, 100, 100, 33554432, 500, 0],
+        ),
+        (
+            "[crafter]\nlevel = 5\ncp = 18\n",
+            "crafter = {level = 5, cp = 18}\n",
+            [5, 18, 20, 100, 500, 0, 100, 100, 33554432, 500, 0],
+        ),
+        (
+            "quality = 500",
+            "quality = 500\ntarget = 100",
+            [5, 18, 20, 100, 500, 0, 100, 100, 33554432, 100, 0],
+        ),
+        (
+            "[base]",
+            "[actions]\nbackload = true\n[base]",
+            [5, 18, 20, 100, 500, 0, 100, 100, 33554432, 500, 1],
+        ),
+        (
+            "[crafter]",
+            "version = 2\n[crafter]",
+            [5, 18, 20, 100, 500, 0, 100, 100, 33554432, 500, 0],
+        ),
+    ] {
+        let text = edited(alloc, ORDINARY, old, new)?;
+        assert!(rt; gives(alloc, text.as_bytes(), fields), "{old} to {new}");
+    }
+    Ok(())
+}
+
+#[test]
+fn whole_files_refused(rt: HostRuntime) -> Result<(), Fail> {
+    let alloc = rt.alloc();
+    for (text, kind, path, value) in [
+        (
+            "[crafter]\nlevel = 80\ncp = 250\n[recipe]\ndurability = 20\nprogress = 120\nquality = 5000\ntrained_eye = true\n[base]\nprogress = 100\nquality = 100\n",
+            "UnknownKey",
+            "recipe.trained_eye",
+            0,
+        ),
+        (
+            "[crafter]\nlevel = 50\ncp = 180\ncraftsmanship = 0\ncontrol = 200\n[recipe]\ndurability = 40\nprogress = 150\nquality = 400\nprogress_div = 1000\nquality_div = 30\npenalty = true\nprogress_mod = 1\n",
+            "OutOfRange",
+            "base.progress",
+            0,
+        ),
+        (
+            "[crafter]\nlevel = 50\ncp = 180\ncraftsmanship = 240\ncontrol = 10000\n[recipe]\ndurability = 40\nprogress = 150\nquality = 400\nprogress_div = 50\nquality_div = 1\n",
+            "OutOfRange",
+            "base.quality",
+            100035,
+        ),
+        ("", "Missing", "crafter.level", 0),
+        ("=", "NotToml", "", 0),
+        ("a = [", "NotToml", "", 0),
+        ("crafter = 1", "Missing", "recipe.durability", 0),
+    ] {
+        assert!(rt;
+            is_refused(alloc, text.as_bytes(), kind, path, value),
+            "{text}"
+        );
+    }
+    Ok(())
+}
+
+#[test]
+fn whole_files_given(rt: HostRuntime) -> Result<(), Fail> {
+    let alloc = rt.alloc();
+    for (text, fields) in [
+        (
+            "version = 2\n[crafter]\nlevel = 80\ncp = 250\n[recipe]\ndurability = 20\nprogress = 120\nquality = 5000\ntrained_eye = true\n[base]\nprogress = 100\nquality = 100\n",
+            [80, 250, 20, 120, 5000, 0, 100, 100, 0, 5000, 0],
+        ),
+        (
+            "[crafter]\nlevel = 50\ncp = 180\ncraftsmanship = 240\ncontrol = 200\n[recipe]\ndurability = 40\nprogress = 150\nquality = 400\nprogress_div = 50\nquality_div = 30\n",
+            [50, 180, 40, 150, 400, 0, 50, 101, 33554432, 400, 0],
+        ),
+        (
+            "[crafter]\nlevel = 100\ncp = 600\ncraftsmanship = 4900\ncontrol = 4800\n[recipe]\ndurability = 70\nprogress = 7000\nquality = 15000\nprogress_div = 170\nquality_div = 150\n",
+            [100, 600, 70, 7000, 15000, 0, 290, 355, 33554432, 15000, 0],
+        ),
+    ] {
+        assert!(rt; gives(alloc, text.as_bytes(), fields), "{text}");
+    }
+    Ok(())
+}
+
+#[test]
+fn cut_files(rt: HostRuntime) -> Result<(), Fail> {
+    let alloc = rt.alloc();
+    let bytes = ORDINARY.as_bytes();
+    for (size, quality) in [(118, 100), (117, 100), (116, 10), (115, 1)] {
+        let fields = [5, 18, 20, 100, 500, 0, 100, quality, 33554432, 500, 0];
+        assert!(rt; gives(alloc, &bytes[..size], fields), "{size}");
+    }
+    for (size, kind, path) in [
+        (114, "NotToml", ""),
+        (104, "Missing", "base.quality"),
+        (89, "Missing", "base.progress"),
+        (37, "Missing", "crafter.craftsmanship"),
+        (0, "Missing", "crafter.level"),
+    ] {
+        assert!(rt; is_refused(alloc, &bytes[..size], kind, path, 0), "{size}");
+    }
+    Ok(())
+}
+
+#[test]
+fn lengths(rt: HostRuntime) -> Result<(), Fail> {
+    let alloc = rt.alloc();
+    let mut text = format!(in alloc; "{ORDINARY}#")?;
+    for _ in 119..65536 {
+        text.push('x')?;
+    }
+    let fields = [5, 18, 20, 100, 500, 0, 100, 100, 33554432, 500, 0];
+    assert!(rt; gives(alloc, text.as_bytes(), fields));
+    text.push('x')?;
+    assert!(rt; is_refused(alloc, text.as_bytes(), "TooLong", "", 0));
+    Ok(())
+}
+
+#[test]
+fn not_utf_8(rt: HostRuntime) -> Result<(), Fail> {
+    let alloc = rt.alloc();
+    let mut bytes = Vec::from_slice(alloc, ORDINARY.as_bytes())?;
+    bytes.push(0xFF)?;
+    assert!(rt; is_refused(alloc, bytes.as_slice(), "NotToml", "", 0));
+    Ok(())
+}
