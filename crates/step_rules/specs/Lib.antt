@@ -1,0 +1,5 @@
+pub mod Legality
+pub mod Macro
+pub mod Measure
+pub mod Run
+pub mod Step

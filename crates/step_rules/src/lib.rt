@@ -1,0 +1,14 @@
+// The rules of a craft: which actions are legal, and what each does.
+#![tactic(auto)]
+
+mod changes;
+pub mod laws;
+mod legality;
+mod run;
+
+pub use changes::step;
+pub use legality::{Illegal, check, is_final, legal, start};
+pub use run::{Stop, replay};
+
+#[cfg(test)]
+mod tests;

@@ -1,0 +1,642 @@
+ghost use Rattle.std.specs.Prelude.{◌≡◌, ◌≤◌, ◌%◌};
+
+use super::*;
+use action_table::Action;
+use action_table::Action::*;
+use craft_settings::Settings;
+use craft_state::{Combo, Perfection, State};
+use std::test::Fail;
+
+// The settings of a craft with base values of 100 and nothing forbidden.
+fn craft(level: u32, cp: u32, durability: u32, progress: u32, quality: u32) -> Settings
+    requires level_low { 1 ≤ level }
+    requires level_high { level ≤ 100 }
+    requires cp { cp ≤ 1000 }
+    requires durability_low { 10 ≤ durability }
+    requires durability_high { durability ≤ 100 }
+    requires fives { durability % 5 ≡ 0 }
+    requires progress_low { 1 ≤ progress }
+    requires progress_high { progress ≤ 100000 }
+    requires quality { quality ≤ 100000 }
+{
+    Settings {
+        level,
+        cp,
+        durability,
+        progress,
+        quality,
+        initial: 0,
+        base_progress: 100,
+        base_quality: 100,
+        forbidden: 0,
+        target: quality,
+        backload: false,
+    }
+}
+
+// A state after a step: CP, durability, progress and quality; iq, waste, innovation, veneration, strides, muscle and
+// manipulation; combo and perfection.
+type Seen = ([u32; 4], [u32; 7], Combo, Perfection);
+
+fn seen(s: &State) -> Seen {
+    let e = &s.effects;
+    (
+        [s.cp, s.durability, s.progress, s.quality],
+        [
+            e.iq,
+            e.waste,
+            e.innovation,
+            e.veneration,
+            e.strides,
+            e.muscle,
+            e.manipulation,
+        ],
+        e.combo,
+        e.perfection,
+    )
+}
+
+// Actions that come first, one more, and the state after it.
+const STEPS: [(&[Action], Action, Seen); 31] = [
+    (
+        &[MuscleMemory, Veneration],
+        BasicSynthesis,
+        (
+            [576, 20, 600, 0],
+            [0, 0, 0, 3, 0, 0, 0],
+            Combo::NoCombo,
+            Perfection::Ready,
+        ),
+    ),
+    (
+        &[Innovation, GreatStrides],
+        BasicTouch,
+        (
+            [532, 30, 0, 250],
+            [1, 0, 2, 0, 0, 0, 0],
+            Combo::Basic,
+            Perfection::Ready,
+        ),
+    ),
+    (
+        &[Reflect, PreparatoryTouch],
+        MastersMend,
+        (
+            [466, 40, 0, 540],
+            [4, 0, 0, 0, 0, 0, 0],
+            Combo::NoCombo,
+            Perfection::Ready,
+        ),
+    ),
+    (
+        &[Manipulation, BasicTouch, GreatStrides, PreparatoryTouch],
+        Observe,
+        (
+            [407, 30, 0, 540],
+            [3, 0, 0, 0, 0, 0, 4],
+            Combo::Standard,
+            Perfection::Ready,
+        ),
+    ),
+    (
+        &[WasteNotII, BasicTouch],
+        WasteNot,
+        (
+            [428, 35, 0, 100],
+            [1, 4, 0, 0, 0, 0, 0],
+            Combo::NoCombo,
+            Perfection::Ready,
+        ),
+    ),
+    (
+        &[Innovation, BasicTouch],
+        Veneration,
+        (
+            [546, 30, 0, 150],
+            [1, 0, 2, 4, 0, 0, 0],
+            Combo::NoCombo,
+            Perfection::Ready,
+        ),
+    ),
+    (
+        &[BasicTouch],
+        StandardTouch,
+        (
+            [564, 20, 0, 237],
+            [2, 0, 0, 0, 0, 0, 0],
+            Combo::Standard,
+            Perfection::Ready,
+        ),
+    ),
+    (
+        &[MuscleMemory],
+        GreatStrides,
+        (
+            [562, 30, 300, 0],
+            [0, 0, 0, 0, 3, 4, 0],
+            Combo::NoCombo,
+            Perfection::Ready,
+        ),
+    ),
+    (
+        &[Manipulation, PreparatoryTouch],
+        Innovation,
+        (
+            [446, 30, 0, 200],
+            [2, 0, 4, 0, 0, 0, 6],
+            Combo::NoCombo,
+            Perfection::Ready,
+        ),
+    ),
+    (
+        &[WasteNot, Innovation],
+        WasteNotII,
+        (
+            [428, 40, 0, 0],
+            [0, 8, 3, 0, 0, 0, 0],
+            Combo::NoCombo,
+            Perfection::Ready,
+        ),
+    ),
+    (
+        &[Reflect, BasicTouch, GreatStrides],
+        ByregotsBlessing,
+        (
+            [520, 10, 0, 836],
+            [0, 0, 0, 0, 0, 0, 0],
+            Combo::NoCombo,
+            Perfection::Ready,
+        ),
+    ),
+    (
+        &[],
+        MuscleMemory,
+        (
+            [594, 30, 300, 0],
+            [0, 0, 0, 0, 0, 5, 0],
+            Combo::NoCombo,
+            Perfection::Ready,
+        ),
+    ),
+    (
+        &[MuscleMemory],
+        CarefulSynthesis,
+        (
+            [587, 20, 660, 0],
+            [0, 0, 0, 0, 0, 0, 0],
+            Combo::NoCombo,
+            Perfection::Ready,
+        ),
+    ),
+    (
+        &[Manipulation, BasicTouch, BasicTouch],
+        Manipulation,
+        (
+            [372, 30, 0, 210],
+            [2, 0, 0, 0, 0, 0, 8],
+            Combo::NoCombo,
+            Perfection::Ready,
+        ),
+    ),
+    (
+        &[BasicTouch],
+        PrudentTouch,
+        (
+            [557, 25, 0, 210],
+            [2, 0, 0, 0, 0, 0, 0],
+            Combo::NoCombo,
+            Perfection::Ready,
+        ),
+    ),
+    (
+        &[],
+        Reflect,
+        (
+            [594, 30, 0, 300],
+            [2, 0, 0, 0, 0, 0, 0],
+            Combo::NoCombo,
+            Perfection::Ready,
+        ),
+    ),
+    (
+        &[WasteNot, Innovation],
+        PreparatoryTouch,
+        (
+            [486, 30, 0, 300],
+            [2, 2, 3, 0, 0, 0, 0],
+            Combo::NoCombo,
+            Perfection::Ready,
+        ),
+    ),
+    (
+        &[Veneration, PreparatoryTouch, BasicTouch],
+        Groundwork,
+        (
+            [506, 0, 270, 320],
+            [3, 0, 0, 2, 0, 0, 0],
+            Combo::Basic,
+            Perfection::Ready,
+        ),
+    ),
+    (
+        &[WasteNot, Veneration],
+        Groundwork,
+        (
+            [508, 30, 540, 0],
+            [0, 2, 0, 3, 0, 0, 0],
+            Combo::NoCombo,
+            Perfection::Ready,
+        ),
+    ),
+    (
+        &[Veneration, Innovation],
+        DelicateSynthesis,
+        (
+            [532, 30, 225, 150],
+            [1, 0, 3, 2, 0, 0, 0],
+            Combo::NoCombo,
+            Perfection::Ready,
+        ),
+    ),
+    (
+        &[BasicTouch, StandardTouch],
+        AdvancedTouch,
+        (
+            [546, 10, 0, 417],
+            [3, 0, 0, 0, 0, 0, 0],
+            Combo::NoCombo,
+            Perfection::Ready,
+        ),
+    ),
+    (
+        &[Observe],
+        AdvancedTouch,
+        (
+            [575, 30, 0, 150],
+            [1, 0, 0, 0, 0, 0, 0],
+            Combo::NoCombo,
+            Perfection::Ready,
+        ),
+    ),
+    (
+        &[Observe, BasicTouch, Observe],
+        StandardTouch,
+        (
+            [536, 20, 0, 237],
+            [2, 0, 0, 0, 0, 0, 0],
+            Combo::NoCombo,
+            Perfection::Ready,
+        ),
+    ),
+    (
+        &[Veneration],
+        PrudentSynthesis,
+        (
+            [564, 35, 270, 0],
+            [0, 0, 0, 3, 0, 0, 0],
+            Combo::NoCombo,
+            Perfection::Ready,
+        ),
+    ),
+    (
+        &[
+            Reflect,
+            WasteNotII,
+            PreparatoryTouch,
+            PreparatoryTouch,
+            ImmaculateMend,
+            PreparatoryTouch,
+            PreparatoryTouch,
+        ],
+        TrainedFinesse,
+        (
+            [192, 20, 0, 1700],
+            [10, 2, 0, 0, 0, 0, 0],
+            Combo::NoCombo,
+            Perfection::Ready,
+        ),
+    ),
+    (
+        &[BasicTouch],
+        RefinedTouch,
+        (
+            [558, 20, 0, 210],
+            [3, 0, 0, 0, 0, 0, 0],
+            Combo::NoCombo,
+            Perfection::Ready,
+        ),
+    ),
+    (
+        &[Observe],
+        RefinedTouch,
+        (
+            [569, 30, 0, 100],
+            [1, 0, 0, 0, 0, 0, 0],
+            Combo::NoCombo,
+            Perfection::Ready,
+        ),
+    ),
+    (
+        &[Manipulation, PreparatoryTouch, BasicTouch],
+        ImmaculateMend,
+        (
+            [334, 40, 0, 320],
+            [3, 0, 0, 0, 0, 0, 5],
+            Combo::NoCombo,
+            Perfection::Ready,
+        ),
+    ),
+    (
+        &[Manipulation],
+        TrainedPerfection,
+        (
+            [504, 40, 0, 0],
+            [0, 0, 0, 0, 0, 0, 7],
+            Combo::NoCombo,
+            Perfection::On,
+        ),
+    ),
+    (
+        &[TrainedPerfection, Innovation],
+        PreparatoryTouch,
+        (
+            [542, 40, 0, 300],
+            [2, 0, 3, 0, 0, 0, 0],
+            Combo::NoCombo,
+            Perfection::Spent,
+        ),
+    ),
+    (
+        &[],
+        TrainedEye,
+        (
+            [350, 30, 0, 3000],
+            [0, 0, 0, 0, 0, 0, 0],
+            Combo::NoCombo,
+            Perfection::Ready,
+        ),
+    ),
+];
+
+#[test]
+fn each_action_steps(rt: HostRuntime) -> Result<(), Fail> {
+    let g = craft(100, 600, 40, 1000, 3000);
+    for (before, action, after) in &STEPS {
+        let state = replay(&g, &start(&g), before).ok().ok_or("stopped")?;
+        check(&g, &state, *action).ok().ok_or("not legal")?;
+        assert_eq!(rt; seen(&step(&g, &state, *action)), *after);
+    }
+    Ok(())
+}
+
+// Actions that come first, one more, and why it isn't legal then.
+type Attempt = (&'static [Action], Action, Option<Illegal>);
+
+const MASTER: [Attempt; 22] = [
+    (&[], Observe, None),
+    (&[], TrainedEye, None),
+    (&[Observe], TrainedEye, Some(Illegal::NotFirst)),
+    (&[], Reflect, None),
+    (&[Observe], Reflect, Some(Illegal::NotFirst)),
+    (&[], MuscleMemory, None),
+    (&[Observe], MuscleMemory, Some(Illegal::NotFirst)),
+    (&[], ByregotsBlessing, Some(Illegal::NoStacks)),
+    (&[BasicTouch], ByregotsBlessing, None),
+    (&[], TrainedFinesse, Some(Illegal::NotTen)),
+    (
+        &[
+            Reflect,
+            WasteNotII,
+            PreparatoryTouch,
+            PreparatoryTouch,
+            ImmaculateMend,
+            PreparatoryTouch,
+        ],
+        TrainedFinesse,
+        Some(Illegal::NotTen),
+    ),
+    (
+        &[
+            Reflect,
+            WasteNotII,
+            PreparatoryTouch,
+            PreparatoryTouch,
+            ImmaculateMend,
+            PreparatoryTouch,
+            PreparatoryTouch,
+        ],
+        TrainedFinesse,
+        None,
+    ),
+    (&[WasteNot], PrudentTouch, Some(Illegal::UnderWaste)),
+    (&[WasteNot], PrudentSynthesis, Some(Illegal::UnderWaste)),
+    (
+        &[WasteNot, Observe, Observe, Observe],
+        PrudentTouch,
+        Some(Illegal::UnderWaste),
+    ),
+    (
+        &[WasteNot, Observe, Observe, Observe, Observe],
+        PrudentTouch,
+        None,
+    ),
+    (
+        &[WasteNot, Observe, Observe, Observe, Observe],
+        PrudentSynthesis,
+        None,
+    ),
+    (&[], TrainedPerfection, None),
+    (
+        &[TrainedPerfection],
+        TrainedPerfection,
+        Some(Illegal::PerfectionSpent),
+    ),
+    (
+        &[TrainedPerfection, BasicTouch],
+        TrainedPerfection,
+        Some(Illegal::PerfectionSpent),
+    ),
+    (
+        &[PreparatoryTouch, PreparatoryTouch],
+        Observe,
+        Some(Illegal::Finished),
+    ),
+    (&[PreparatoryTouch], Observe, None),
+];
+
+const SEVENTEEN_CP: [Attempt; 5] = [
+    (
+        &[],
+        BasicTouch,
+        Some(Illegal::NotEnoughCp { has: 17, needs: 18 }),
+    ),
+    (&[], Observe, Some(Illegal::NotLearned)),
+    (&[], BasicSynthesis, None),
+    (&[BasicSynthesis], BasicSynthesis, Some(Illegal::Finished)),
+    (
+        &[BasicSynthesis],
+        BasicTouch,
+        Some(Illegal::NotEnoughCp { has: 17, needs: 18 }),
+    ),
+];
+
+const EIGHTEEN_CP: [Attempt; 1] = [(&[], BasicTouch, None)];
+
+const NO_TRAINED_EYE: [Attempt; 2] = [
+    (&[], TrainedEye, Some(Illegal::Forbidden)),
+    (&[Observe], TrainedEye, Some(Illegal::Forbidden)),
+];
+
+const TEN_CP: [Attempt; 2] = [
+    (&[Observe], TrainedEye, Some(Illegal::NotFirst)),
+    (&[], ByregotsBlessing, Some(Illegal::NoStacks)),
+];
+
+const NO_OBSERVE: [Attempt; 1] = [(&[], Observe, Some(Illegal::NotLearned))];
+
+const BACKLOADED: [Attempt; 5] = [
+    (&[], BasicTouch, None),
+    (&[BasicSynthesis], BasicTouch, Some(Illegal::Backloaded)),
+    (&[BasicSynthesis], BasicSynthesis, None),
+    (&[BasicTouch], BasicSynthesis, None),
+    (
+        &[BasicSynthesis, BasicSynthesis],
+        BasicTouch,
+        Some(Illegal::Finished),
+    ),
+];
+
+// Whether each attempt has its answer.
+fn answers(g: &Settings, attempts: &[Attempt]) -> bool {
+    attempts.iter().all(|(before, action, why)| match replay(g, &start(g), before) {
+        Ok(state) => check(g, &state, *action).err() == *why,
+        Err(_) => false,
+    })
+}
+
+#[test]
+fn each_reason(rt: HostRuntime) -> Result<(), Fail> {
+    let master = craft(100, 600, 40, 1000, 3000);
+    assert!(rt; answers(&master, &MASTER));
+    assert!(rt; answers(&craft(5, 17, 20, 100, 500), &SEVENTEEN_CP));
+    assert!(rt; answers(&craft(5, 18, 20, 100, 500), &EIGHTEEN_CP));
+    assert!(rt; answers(&craft(100, 10, 40, 1000, 1000), &TEN_CP));
+    let mut no_trained_eye = master;
+    no_trained_eye.forbidden = 1 << 25;
+    assert!(rt; answers(&no_trained_eye, &NO_TRAINED_EYE));
+    let mut no_observe = craft(5, 18, 20, 100, 500);
+    no_observe.forbidden = 1 << 3;
+    assert!(rt; answers(&no_observe, &NO_OBSERVE));
+    let mut backloaded = craft(5, 18, 30, 200, 500);
+    backloaded.backload = true;
+    assert!(rt; answers(&backloaded, &BACKLOADED));
+    Ok(())
+}
+
+// What is left of CP and durability, and the progress and quality, after a macro from the start.
+fn end(g: &Settings, actions: &[Action]) -> Option<[u32; 4]> {
+    let last = replay(g, &start(g), actions).ok()?;
+    Some([last.cp, last.durability, last.progress, last.quality])
+}
+
+#[test]
+fn whole_macros(rt: HostRuntime) {
+    let macros: [(Settings, &[Action], [u32; 4]); 14] = [
+        (
+            craft(15, 18, 20, 150, 0),
+            &[Veneration, BasicSynthesis],
+            [0, 10, 150, 0],
+        ),
+        (
+            craft(15, 18, 20, 150, 0),
+            &[BasicSynthesis, BasicSynthesis],
+            [18, 0, 150, 0],
+        ),
+        (
+            craft(26, 54, 20, 150, 500),
+            &[Veneration, Innovation, BasicTouch, BasicSynthesis],
+            [0, 0, 150, 150],
+        ),
+        (
+            craft(100, 18, 10, 360, 0),
+            &[TrainedPerfection, Groundwork],
+            [0, 10, 360, 0],
+        ),
+        (craft(86, 18, 10, 180, 0), &[Groundwork], [0, 0, 180, 0]),
+        (craft(86, 18, 10, 181, 0), &[Groundwork], [0, 0, 180, 0]),
+        (craft(86, 18, 10, 180, 0), &[MuscleMemory], [12, 0, 180, 0]),
+        (
+            craft(100, 600, 40, 1000, 1000),
+            &[BasicTouch, StandardTouch, AdvancedTouch],
+            [546, 10, 0, 417],
+        ),
+        (
+            craft(100, 600, 40, 1000, 1000),
+            &[BasicTouch, Observe, StandardTouch],
+            [543, 20, 0, 237],
+        ),
+        (
+            craft(100, 600, 40, 1000, 1000),
+            &[WasteNot, PreparatoryTouch],
+            [504, 30, 0, 200],
+        ),
+        (
+            craft(11, 36, 30, 100, 500),
+            &[BasicTouch, BasicTouch, BasicSynthesis],
+            [0, 0, 100, 210],
+        ),
+        (
+            craft(10, 36, 30, 100, 500),
+            &[BasicTouch, BasicTouch, BasicSynthesis],
+            [0, 0, 100, 200],
+        ),
+        (
+            craft(5, 18, 30, 200, 500),
+            &[BasicSynthesis, BasicTouch, BasicSynthesis],
+            [0, 0, 200, 100],
+        ),
+        (
+            craft(80, 250, 20, 120, 5000),
+            &[TrainedEye, BasicSynthesis],
+            [0, 0, 120, 5000],
+        ),
+    ];
+    for (g, actions, last) in &macros {
+        assert_eq!(rt; end(g, actions), Some(*last));
+    }
+}
+
+#[test]
+fn a_list_stops(rt: HostRuntime) -> Result<(), Fail> {
+    let g = craft(100, 600, 40, 1000, 1000);
+    let stop = replay(&g, &start(&g), &[Observe, Reflect, Observe])
+        .err()
+        .ok_or("ran")?;
+    assert_eq!(rt; (stop.place, stop.why), (1, Illegal::NotFirst));
+    assert_eq!(rt;
+        seen(&stop.state),
+        ([593, 40, 0, 0], [0; 7], Combo::Standard, Perfection::Ready)
+    );
+    Ok(())
+}
+
+#[test]
+fn legal_actions_in_order(rt: HostRuntime) -> Result<(), Fail> {
+    let g = craft(26, 54, 20, 150, 500);
+    let state = replay(&g, &start(&g), &[Veneration]).ok().ok_or("stopped")?;
+    let found = legal(rt.alloc(), &g, &state);
+    assert_eq!(rt;
+        found.as_slice(),
+        [
+            BasicSynthesis,
+            BasicTouch,
+            Observe,
+            Veneration,
+            StandardTouch,
+            GreatStrides,
+            Innovation
+        ]
+        .as_slice()
+    );
+    Ok(())
+}
