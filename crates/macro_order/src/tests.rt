@@ -1,0 +1,88 @@
+use super::*;
+use action_table::Action::*;
+
+const CRAFT: Settings = Settings {
+    level: 11,
+    cp: 36,
+    durability: 30,
+    progress: 100,
+    quality: 500,
+    initial: 0,
+    base_progress: 100,
+    base_quality: 100,
+    forbidden: 0,
+    target: 500,
+    backload: false,
+};
+
+// Quality, steps and seconds of a list that completes the craft.
+fn numbers(g: &Settings, actions: &[Action]) -> Option<(u32, u32, u32)> {
+    score(g, actions).map(|s| (s.quality, s.steps, s.seconds))
+}
+
+// Whether both complete the craft, and the first alone is better.
+fn beats(g: &Settings, first: &[Action], second: &[Action]) -> bool {
+    match (score(g, first), score(g, second)) {
+        (Some(a), Some(b)) => better(&a, first, &b, second) && !better(&b, second, &a, first),
+        _ => false,
+    }
+}
+
+#[test]
+fn quality_counts_up_to_the_target(rt: HostRuntime) {
+    let (short, long) = (
+        [BasicTouch, BasicSynthesis],
+        [BasicTouch, BasicTouch, BasicSynthesis],
+    );
+    let mut g = CRAFT;
+    assert_eq!(rt; numbers(&g, &short), Some((100, 2, 6)));
+    assert_eq!(rt; numbers(&g, &long), Some((210, 3, 9)));
+    assert!(rt; beats(&g, &long, &short));
+    g.target = 150;
+    assert_eq!(rt; numbers(&g, &long), Some((150, 3, 9)));
+    assert!(rt; beats(&g, &long, &short));
+    g.target = 100;
+    assert!(rt; beats(&g, &short, &long));
+}
+
+#[test]
+fn seconds_and_then_the_action_order_decide(rt: HostRuntime) {
+    let mut g = CRAFT;
+    g.level = 26;
+    g.cp = 54;
+    g.durability = 20;
+    g.progress = 150;
+    let first = [Veneration, Innovation, BasicTouch, BasicSynthesis];
+    assert_eq!(rt; numbers(&g, &first), Some((150, 4, 10)));
+    assert!(rt;
+        beats(
+            &g,
+            &first,
+            &[Innovation, Veneration, BasicTouch, BasicSynthesis]
+        )
+    );
+    assert!(rt;
+        beats(
+            &g,
+            &first,
+            &[Innovation, BasicTouch, Veneration, BasicSynthesis]
+        )
+    );
+    assert!(rt;
+        beats(
+            &g,
+            &[Veneration, BasicSynthesis],
+            &[BasicSynthesis, BasicSynthesis]
+        )
+    );
+    assert!(rt; !beats(&g, &first, &first));
+}
+
+#[test]
+fn only_complete_legal_lists_have_a_score(rt: HostRuntime) {
+    let g = CRAFT;
+    assert_eq!(rt; numbers(&g, &[]), None);
+    assert_eq!(rt; numbers(&g, &[BasicTouch, BasicTouch, BasicTouch]), None);
+    assert_eq!(rt; numbers(&g, &[BasicSynthesis, BasicTouch]), None);
+    assert_eq!(rt; numbers(&g, &[BasicSynthesis]), Some((0, 1, 3)));
+}
