@@ -1,0 +1,3 @@
+pub mod Columns
+pub mod Covers
+pub mod Groups

@@ -1,0 +1,145 @@
+ghost use Rattle.std.specs.Prelude.{◌≤◌};
+
+use super::*;
+use action_table::Action;
+use craft_state::{Combo, Effects, Perfection, State};
+use std::alloc::AllocError;
+use std::test::Fail;
+
+const EFFECTS: Effects = Effects {
+    iq: 0,
+    waste: 0,
+    innovation: 0,
+    veneration: 0,
+    strides: 0,
+    muscle: 0,
+    manipulation: 0,
+    combo: Combo::NoCombo,
+    perfection: Perfection::Spent,
+    first: false,
+};
+
+const NODE: Node = Node {
+    state: State {
+        cp: 10,
+        durability: 20,
+        progress: 30,
+        quality: 50,
+        effects: EFFECTS,
+    },
+    seconds: 5,
+    parent: 0,
+    action: Action::BasicTouch,
+};
+
+// A node with these numbers, named by its parent.
+fn made(iq: u32, quality: u32, seconds: u32, parent: usize) -> Node
+    requires iq { iq ≤ 10 }
+    requires quality { quality ≤ 100000 }
+{
+    let mut effects = EFFECTS;
+    effects.iq = iq;
+    let state = State {
+        cp: 10,
+        durability: 20,
+        progress: 30,
+        quality,
+        effects,
+    };
+    Node {
+        state,
+        seconds,
+        parent,
+        action: Action::BasicTouch,
+    }
+}
+
+#[test]
+fn keeps_the_uncovered(rt: HostRuntime) -> Result<(), Fail> {
+    let mut level = Vec::new(rt.alloc());
+    level.push(made(0, 50, 5, 0))?;
+    level.push(made(0, 50, 5, 1))?;
+    level.push(made(0, 40, 4, 2))?;
+    level.push(made(1, 50, 5, 3))?;
+    let kept = prune(&rt, rt.alloc(), level).ok().ok_or("want of memory")?;
+    let parents: [usize; 3] = [0, 2, 3];
+    assert_eq!(rt; kept.len(), parents.len());
+    for (node, parent) in kept.iter().zip(&parents) {
+        assert_eq!(rt; node.parent, *parent);
+    }
+    let none = prune(&rt, rt.alloc(), Vec::new(rt.alloc()))
+        .ok()
+        .ok_or("want of memory")?;
+    assert!(rt; none.is_empty());
+    Ok(())
+}
+
+#[test]
+fn finds_the_first_cover(rt: HostRuntime) -> Result<(), Fail> {
+    let mut columns = Columns::new(rt.alloc());
+    assert!(rt; columns.push(10, 20, 5).is_ok());
+    assert!(rt; columns.push(30, 20, 5).is_ok());
+    assert_eq!(rt; columns.cover([20, 20, 5]), Some(1));
+    assert_eq!(rt; columns.cover([10, 20, 5]), Some(0));
+    assert_eq!(rt; columns.cover([10, 25, 5]), None);
+    Ok(())
+}
+
+// Nodes with few numbers each, so that many are equal.
+fn drawn(alloc: Global, seed: u32) -> Result<Vec<Node>, AllocError> {
+    let mut level = Vec::new(alloc);
+    let mut draw = seed;
+    for parent in 0..300usize {
+        draw = draw.wrapping_mul(1664525).wrapping_add(1013904223);
+        let mut node = NODE;
+        node.parent = parent;
+        node.seconds = draw >> 8 & 3;
+        node.state.cp = draw >> 11 & 7;
+        node.state.durability = (draw >> 15 & 3) * 5;
+        node.state.quality = draw >> 18 & 7;
+        node.state.progress = draw >> 22 & 1;
+        node.state.effects.iq = draw >> 24 & 1;
+        level.push(node)?;
+    }
+    Ok(level)
+}
+
+// Whether some node covers the one at a place, by comparing it with each.
+fn is_covered(level: &[Node], place: usize) -> bool {
+    let Some(node) = level.get(place) else {
+        return false;
+    };
+    for (earlier, other) in level.iter().enumerate() {
+        if other.state.progress == node.state.progress
+            && other.state.effects == node.state.effects
+            && other.state.cp >= node.state.cp
+            && other.state.durability >= node.state.durability
+            && other.state.quality >= node.state.quality
+            && (other.seconds < node.seconds
+                || (other.seconds == node.seconds && earlier < place))
+        {
+            return true;
+        }
+    }
+    false
+}
+
+#[test]
+fn prunes_as_the_plain_comparison(rt: HostRuntime) -> Result<(), Fail> {
+    for seed in [1, 99, 2026] {
+        let level = drawn(rt.alloc(), seed)?;
+        let mut expected = Vec::new(rt.alloc());
+        for (place, node) in level.iter().enumerate() {
+            if !is_covered(&level, place) {
+                expected.push(node.parent)?;
+            }
+        }
+        let kept = prune(&rt, rt.alloc(), level).ok().ok_or("want of memory")?;
+        assert_eq!(rt; kept.len(), expected.len());
+        assert!(rt; kept.len() < 300);
+        for (node, parent) in kept.iter().zip(&expected) {
+            assert_eq!(rt; node.parent, *parent);
+        }
+    }
+    Ok(())
+}
