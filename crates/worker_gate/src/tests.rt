@@ -1,0 +1,113 @@
+ghost use Rattle.std.specs.Prelude.{◌≡◌, ℕ, ◌+◌, ◌-◌, ◌<◌, ◌≤◌, length, slice_index, slice_index_or, All};
+ghost use Rattle.worker_gate.specs.Cut.{cut};
+
+use crate::{FreeGate, Gate, each, range_of};
+use std::sync::atomic::{AtomicU64, Ordering};
+use std::thread::Threads;
+
+#[test]
+fn cuts_ten(rt: HostRuntime) {
+    for (k, range) in [(0, (0, 2)), (1, (2, 5)), (2, (5, 7)), (3, (7, 10))] {
+        assert_eq!(rt; range_of(10, 4, k), range);
+    }
+}
+
+// Each rank is its own place.
+fn rank<R: Threads + Sync>(rt: &R, ranks: &mut [u32])
+    requires low { 1 ≤ length ranks.old }
+    requires high { length ranks.old ≤ 64 }
+    ensures { (i : ℕ) → i < length ranks.old → slice_index ranks.new i ≡ i }
+{
+    each(rt, ranks, &FreeGate, |k, rank: &mut u32| *rank = k);
+}
+
+#[test]
+fn works_once_at_each_place(rt: HostRuntime) {
+    let mut ranks = [9u32; 5];
+    rank(&rt, &mut ranks);
+    assert!(rt; ranks == [0, 1, 2, 3, 4]);
+}
+
+// How long a worker's own range is, beside what it keeps.
+#[derive(Drop)]
+struct Reader {
+    table: u32,
+    seen: usize,
+}
+
+fn read_range(reader: &mut Reader, from: usize, to: usize)
+    requires table { reader.old.table ≡ 7 }
+    requires order { from ≤ to }
+    ensures stays { reader.new.table ≡ 7 }
+    ensures seen { reader.new.seen ≡ to - from }
+{
+    reader.seen = to - from;
+}
+
+// A work that asks something of its worker, and keeps it.
+fn read_all<R: Threads + Sync>(rt: &R, readers: &mut [Reader], len: usize)
+    requires low { 1 ≤ length readers.old }
+    requires high { length readers.old ≤ 64 }
+    requires tables { All (λ s. s.table ≡ 7) readers.old }
+    ensures stays { All (λ s. s.table ≡ 7) readers.new }
+    ensures seen { (i : ℕ) (d : _) → i < length readers.old → (slice_index_or readers.new i d).seen ≡ cut len (length readers.old) (i + 1) - cut len (length readers.old) i }
+{
+    let workers = readers.len() as u32;
+    each(rt, readers, &FreeGate, |k, reader: &mut Reader| {
+        let (from, to) = range_of(len, workers, k);
+        read_range(reader, from, to);
+    });
+}
+
+#[test]
+fn reads_each_range(rt: HostRuntime) {
+    let mut readers = [Reader { table: 7, seen: 0 }, Reader { table: 7, seen: 0 }];
+    read_all(&rt, &mut readers, 11);
+    assert!(rt; readers[0].seen == 5 && readers[1].seen == 6);
+}
+
+// Each of two workers shows its flag at the gate, and waits there for the other's.
+#[derive(Drop)]
+struct Meeting {
+    first: AtomicU64,
+    second: AtomicU64,
+    met: AtomicU64,
+}
+
+impl Meeting {
+    fn flag(&self, worker: u32) -> &AtomicU64 {
+        if worker == 0 {
+            &self.first
+        } else {
+            &self.second
+        }
+    }
+}
+
+impl Gate for Meeting {
+    fn pass(&self, worker: u32) {
+        self.flag(worker).store(1, Ordering::SeqCst);
+        let other = self.flag(1 - worker.min(1));
+        for _ in 0..100_000_000u32 {
+            if other.load(Ordering::SeqCst) == 1 {
+                self.met.fetch_add(1, Ordering::SeqCst);
+                return;
+            }
+        }
+    }
+}
+
+#[test]
+fn run_side_by_side(rt: HostRuntime) {
+    let gate = Meeting {
+        first: AtomicU64::new(0),
+        second: AtomicU64::new(0),
+        met: AtomicU64::new(0),
+    };
+    let mut passed = [0u64; 2];
+    each(&rt, &mut passed, &gate, |k, passed: &mut u64| {
+        *passed = gate.flag(k).load(Ordering::SeqCst);
+    });
+    assert!(rt; passed == [1, 1]);
+    assert_eq!(rt; gate.met.load(Ordering::SeqCst), 2);
+}
