@@ -1,0 +1,5 @@
+pub mod Codes
+pub mod Events
+pub mod Sound
+pub mod Seats
+pub mod Samples
