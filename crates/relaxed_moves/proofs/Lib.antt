@@ -1,0 +1,10 @@
+pub mod Columns
+pub mod Costs
+pub mod FirstMoves
+pub mod Greatest
+pub mod Indices
+pub mod Order
+pub mod Plans
+pub mod Products
+pub mod Reading
+pub mod Sizes

@@ -1,0 +1,161 @@
+ghost use Rattle.std.specs.Prelude.{◌≡◌, ◌≤◌, ◌-◌, ◌*◌, ◌/◌, IsTrue, true, nat_lt};
+ghost use Rattle.craft_numbers.specs.Gains.{progress_gain_of};
+ghost use Rattle.relaxed_moves.specs.Moves.{is_listed, is_move_of, unit_of, relax_of, move_gain_of, move_iq, move_on_of};
+
+use crate::kinds::Relaxed;
+use action_table::{Action, row};
+use craft_numbers::{cap_add, progress_gain, quality_gain};
+use craft_settings::{Settings, allowed};
+use craft_state::State;
+
+/// Whether an action is in the list of relaxed moves, whatever the state.
+pub fn is_listed(g: &Settings, action: Action) -> bool
+    ensures { result ≡ is_listed g.now action }
+{
+    match action {
+        Action::MuscleMemory | Action::Reflect => false,
+        Action::Veneration | Action::Innovation | Action::GreatStrides => allowed(g, action),
+        _ => {
+            let row = row(action, g.level);
+            allowed(g, action) && (row.progress > 0 || row.quality > 0)
+        }
+    }
+}
+
+/// Whether an action is a relaxed move from `x`.
+#[tactic(auto, unfolding(crate::specs::Moves::is_move_of))]
+pub fn is_move(g: &Settings, x: &Relaxed, action: Action) -> bool
+    ensures value { result ≡ is_move_of g.now x.now action }
+    ensures listed { result ≡ true → is_listed g.now action ≡ true }
+{
+    let ready = match action {
+        Action::ByregotsBlessing => x.iq > 0,
+        Action::TrainedFinesse => x.iq == 10,
+        _ => true,
+    };
+    is_listed(g, action) && ready
+}
+
+/// The progress of a bucket: the recipe's, shared out over `grain` buckets and rounded up.
+#[tactic(auto, using(crate::proofs::Products::unit_covers), unfolding(crate::specs::Moves::unit_of))]
+pub fn unit(g: &Settings, grain: u32) -> u32
+    requires low { 1 ≤ grain }
+    requires high { grain ≤ 64 }
+    ensures value { result ≡ unit_of g.now grain }
+    ensures low { 1 ≤ result }
+    ensures high { result ≤ g.now.progress }
+    ensures covers { g.now.progress ≤ result * grain }
+{
+    g.progress.div_ceil(grain)
+}
+
+/// What the bounds see of a state.
+#[tactic(auto, using(crate::proofs::Products::bucket_below), unfolding(crate::specs::Moves::relax_of))]
+pub fn relax(g: &Settings, grain: u32, s: &State) -> Relaxed
+    requires low { 1 ≤ grain }
+    requires high { grain ≤ 64 }
+    requires progress { s.now.progress ≤ g.now.progress }
+    ensures value { result ≡ relax_of g.now grain s.now }
+    ensures bucket { result.bucket ≤ grain }
+{
+    Relaxed {
+        bucket: (g.progress - s.progress) / unit(g, grain),
+        iq: s.effects.iq,
+        innovation: s.effects.innovation,
+        veneration: s.effects.veneration,
+        strides: s.effects.strides > 0,
+        muscle: s.effects.muscle > 0,
+    }
+}
+
+/// The quality that a relaxed move gains, 0 for one that isn't a touch.
+#[tactic(auto, unfolding(crate::specs::Moves::move_gain_of))]
+pub fn move_gain(g: &Settings, x: &Relaxed, action: Action) -> u32
+    requires { IsTrue (is_move_of g.now x.now action) }
+    ensures value { result ≡ move_gain_of g.now x.now action }
+    ensures range { result ≤ 100000 }
+{
+    let row = row(action, g.level);
+    if row.quality == 0 {
+        return 0;
+    }
+    let efficiency = match action {
+        Action::ByregotsBlessing => 100 + 20 * x.iq,
+        _ => row.quality,
+    };
+    quality_gain(
+        g.base_quality,
+        efficiency,
+        x.iq,
+        x.innovation > 0,
+        x.strides,
+    )
+}
+
+/// The relaxed state after a move.
+#[tactic(auto, unfolding(crate::specs::Moves::move_on_of))]
+pub fn move_on(g: &Settings, grain: u32, x: &Relaxed, action: Action) -> Relaxed
+    requires low { 1 ≤ grain }
+    requires high { grain ≤ 64 }
+    requires bucket { x.now.bucket ≤ grain }
+    requires is_move { IsTrue (is_move_of g.now x.now action) }
+    ensures value { result ≡ move_on_of g.now grain x.now action }
+    ensures bucket { result.bucket ≤ x.now.bucket }
+{
+    let row = row(action, g.level);
+    Relaxed {
+        bucket: next_bucket(g, grain, x, row.progress),
+        iq: if row.quality > 0 {
+            next_iq(g, x.iq, action)
+        } else {
+            x.iq
+        },
+        innovation: match action {
+            Action::Innovation => 4,
+            _ => x.innovation.saturating_sub(1),
+        },
+        veneration: match action {
+            Action::Veneration => 4,
+            _ => x.veneration.saturating_sub(1),
+        },
+        strides: match action {
+            Action::GreatStrides => true,
+            _ if row.quality > 0 => false,
+            _ => x.strides,
+        },
+        muscle: if row.progress > 0 { false } else { x.muscle },
+    }
+}
+
+// The bucket after the progress of a move, rounded down.
+#[tactic(auto, using(crate::proofs::Products::products))]
+fn next_bucket(g: &Settings, grain: u32, x: &Relaxed, progress: u32) -> u32
+    requires low { 1 ≤ grain }
+    requires high { grain ≤ 64 }
+    requires bucket { x.now.bucket ≤ grain }
+    requires progress { progress ≤ 400 }
+    ensures value { result ≡ (x.now.bucket * unit_of g.now grain - progress_gain_of g.now.base_progress progress (nat_lt 0 x.now.veneration) x.now.muscle) / unit_of g.now grain }
+    ensures falls { result ≤ x.now.bucket }
+{
+    let unit = unit(g, grain);
+    let gain = progress_gain(g.base_progress, progress, x.veneration > 0, x.muscle);
+    (x.bucket * unit).saturating_sub(gain) / unit
+}
+
+// The stacks after a touch.
+fn next_iq(g: &Settings, iq: u32, action: Action) -> u32
+    requires { iq ≤ 10 }
+    ensures value { result ≡ move_iq g.now iq action }
+    ensures range { result ≤ 10 }
+{
+    let stacks = match action {
+        Action::ByregotsBlessing => return 0,
+        Action::RefinedTouch => 2,
+        _ => row(action, g.level).stacks,
+    };
+    if g.level >= 11 {
+        cap_add(iq, stacks, 10)
+    } else {
+        iq
+    }
+}
