@@ -1,0 +1,150 @@
+-- How a row comes to hold the optima of its buckets.
+use Rattle.std.proofs.Common.{◌≡◌, ◌⊎◌, inl, inr, ◌≢◌, ℕ, ◌+◌, ◌-◌, ◌^◌, ◌<◌, ◌≤◌, max, Bool, true, false, Option, Some, None, zero, suc, List, [], ◌∷◌, length, take, slice_index, slice_set, get_or-set_other, get_or-set_same, Contains, ◌==◌, refl, sym, ap, ◌∙◌, subst, arith, if◌then◌else◌}
+use Rattle.std.specs.Option.{option_map}
+use Rattle.action_table.specs.declared.action.Action.{Action}
+use Rattle.action_table.specs.Table.{number_of, all_actions}
+use Rattle.lane_front.specs.MaxPlus.{max_plus_of}
+use Rattle.race_core.specs.declared.entry.Entry.{Entry}
+use Rattle.race_core.specs.declared.view.View.{View}
+use Rattle.seat_tables.specs.Seats.{StillSees}
+use Rattle.relaxed_moves.specs.FirstMoves.{at_end, leads, leads_with}
+use Rattle.relaxed_moves.specs.Moves.{RelaxedFields, AreRelaxed}
+use Rattle.relaxed_moves.specs.Optimum.{option_max, best_plan}
+use Rattle.relaxed_moves.specs.Places.{index_of}
+use Rattle.relaxed_moves.proofs.FirstMoves.{leads-none, leads-take, leads-all}
+use Rattle.table_bound.proofs.Fits.{coded_small}
+use Rattle.table_bound.specs.Bounds.{BoundRules, AreBoundRules, optimum, entry_by}
+use Rattle.table_bound.specs.Columns.{coded, at_bucket, IsColumn, Leads, TakesIn, LeadsNowhere, LeadsDown, SeesBuckets}
+
+coded-injective : (a b : Option ℕ) → coded a ≡ coded b → a ≡ b
+coded-injective None None e = refl
+coded-injective None (Some v) e = absurd (let h : ⊥ = omega arith in h)
+coded-injective (Some v) None e = absurd (let h : ⊥ = omega arith in h)
+coded-injective (Some v) (Some w) e = ap Some (let same : v ≡ w = omega arith in same)
+
+-- a number of a row stands for one optimum
+pub decoded : (number : ℕ) (a b : Option ℕ) → number ≡ coded a → number ≡ coded b → a ≡ b
+decoded number a b e f = coded-injective a b (sym e ∙ f)
+
+coded-max : (a b : Option ℕ) → coded (option_max a b) ≡ max (coded a) (coded b)
+coded-max None b = omega arith
+coded-max (Some a) None = omega arith
+coded-max (Some a) (Some b) = omega arith
+
+-- the kernel takes the greater of a number and a raised one
+max_plus-coded : (d gain : ℕ) (o : Option ℕ) → max_plus_of d (coded o) gain ≡ max d (coded (option_map (λ most. gain + most) o))
+max_plus-coded d gain None = omega arith
+max_plus-coded d gain (Some v) = grind arith
+
+coded_end : (bucket : ℕ) (t : Bool) → (if t then 1 else 0) ≡ coded (if t then Some 0 else None)
+coded_end bucket true = refl
+coded_end bucket false = refl
+
+-- the row of the empty list
+pub leads-begin : (r : BoundRules) (budget : ℕ) (x : RelaxedFields) (row : List ℕ)
+    → ((b : ℕ) → b < length row → slice_index row b ≡ (if b == 0 then 1 else 0)) → Leads r budget x 0 row
+leads-begin r budget x row is = record {
+  at = λ b lt.
+      is b lt ∙ coded_end b (b == 0) ∙ ap coded (sym (leads-none r.price r.g r.grain budget (at_bucket x b)));
+}
+
+-- one more first move was tried
+pub leads-more : (r : BoundRules) (budget : ℕ) (x : RelaxedFields) (n : ℕ) (action : Action) (old new : List ℕ) → length new ≡ length old → number_of action ≡ n
+    → Leads r budget x n old → TakesIn r budget x action old new → Leads r budget x (n + 1) new
+leads-more r budget x n action old new long at before takes = record {
+  at = λ b lt.
+      let inside : b < length old = omega (arith, lt, long) in
+      takes.at b inside
+      ∙ ap (λ k. max k (coded (leads_with r.price r.g r.grain budget (at_bucket x b) action))) (before.at b inside)
+      ∙ sym (ap coded (leads-take r.price r.g r.grain budget (at_bucket x b) action n at) ∙ coded-max (leads r.price r.g r.grain budget (at_bucket x b) (take n all_actions)) (leads_with r.price r.g r.grain budget (at_bucket x b) action));
+}
+
+take_all : {A : Type 0} (xs : List A) (n : ℕ) → length xs ≤ n → take n xs ≡ xs
+take_all [] zero h = refl
+take_all [] (suc n) h = refl
+take_all (x ∷ xs) zero h = absurd (let no : ⊥ = omega (arith, h) in no)
+take_all (x ∷ xs) (suc n) h = ap (λ ys. x ∷ ys) (take_all xs n (omega (arith, h)))
+
+-- every first move was tried
+pub leads-column : (r : BoundRules) (budget : ℕ) (x : RelaxedFields) (n : ℕ) (row : List ℕ) → AreBoundRules r → 26 ≤ n → Leads r budget x n row → IsColumn r budget x row
+leads-column r budget x n row rules all h = record {
+  at = λ b lt.
+      h.at b lt ∙ ap (λ tried. coded (leads r.price r.g r.grain budget (at_bucket x b) tried)) (take_all all_actions n all)
+      ∙ ap coded (leads-all r.price r.g r.grain budget (at_bucket x b) rules.priced);
+}
+
+-- nothing begins with the action
+pub takes-none : (r : BoundRules) (budget : ℕ) (x : RelaxedFields) (action : Action) (row : List ℕ) → LeadsNowhere r budget x action → TakesIn r budget x action row row
+takes-none r budget x action row none = record {
+  at = λ b lt.
+      (let same : slice_index row b ≡ max (slice_index row b) 0 = omega arith in same) ∙ ap (λ o. max (slice_index row b) (coded o)) (sym (none.at b));
+}
+
+-- what begins with the action, by another column, moved up
+pub takes-turn : (r : BoundRules) (budget : ℕ) (x : RelaxedFields) (action : Action) (rest gain down : ℕ) (next : RelaxedFields) (old new column moved : List ℕ)
+    → length old ≡ r.grain + 1 → length column ≡ r.grain + 1 → LeadsDown r budget x action rest gain down next → IsColumn r rest next column
+    → ((b : ℕ) → b < length column → slice_index moved b ≡ slice_index column (b - down))
+    → ((b : ℕ) → b < length old → slice_index new b ≡ max_plus_of (slice_index old b) (slice_index moved b) gain)
+    → TakesIn r budget x action old new
+takes-turn r budget x action rest gain down next old new column moved wide long leads is up plus = record {
+  at = λ b lt.
+      let there : b < length column = omega (arith, lt, wide, long) in
+      let inside : b - down < length column = omega (arith, there) in
+      let within : b ≤ r.grain = omega (arith, lt, wide) in
+      plus b lt ∙ ap (λ n. max_plus_of (slice_index old b) n gain) (up b there ∙ is.at (b - down) inside)
+      ∙ max_plus-coded (slice_index old b) gain (optimum r rest (at_bucket next (b - down)))
+      ∙ ap (λ o. max (slice_index old b) (coded o)) (sym (leads.at b within));
+}
+
+below_or_at : (b n : ℕ) → b < n + 1 → (b < n) ⊎ (b ≡ n)
+below_or_at b n h = grind arith
+
+-- one bucket more was seen
+pub sees-more : {T : Type 0} (n : ℕ) (r : BoundRules) (budget : ℕ) (x : RelaxedFields) (v w : View T) → StillSees v w
+    → Contains w.seen (index_of r.grain budget (at_bucket x n)) → SeesBuckets n r budget x v → SeesBuckets (n + 1) r budget x w
+sees-more n r budget x v w still this before = record {
+  seen = λ b lt. elim (below_or_at b n lt) [
+    | inl low ↦ still.seen _ (before.seen b low)
+    | inr same ↦ subst (λ k. Contains w.seen (index_of r.grain budget (at_bucket x k))) (sym same) this
+  ];
+}
+
+-- one bucket more was read
+pub reads-more : (r : BoundRules) (budget : ℕ) (x : RelaxedFields) (n number : ℕ) (row : List ℕ) → n < length row
+    → ((b : ℕ) → b < n → slice_index row b ≡ coded (optimum r budget (at_bucket x b)))
+    → number ≡ coded (optimum r budget (at_bucket x n))
+    → (b : ℕ) → b < n + 1 → slice_index (slice_set row n number) b ≡ coded (optimum r budget (at_bucket x b))
+reads-more r budget x n number row inside before this b lt = elim (below_or_at b n lt) [
+  | inl low ↦ get_or-set_other row n b number 0 (let ne : b ≢ n = omega (arith, low) in ne) ∙ before b low
+  | inr same ↦ subst (λ k. slice_index (slice_set row n number) k ≡ coded (optimum r budget (at_bucket x k))) (sym same) (rw get_or-set_same this)
+]
+
+entry_by-injective : (a b : Option ℕ) → entry_by a ≡ entry_by b → a ≡ b
+entry_by-injective None None e = refl
+entry_by-injective None (Some v) e = cc
+entry_by-injective (Some v) None e = cc
+entry_by-injective (Some v) (Some w) e = cc
+
+-- the number of an entry that was read is small
+pub number_small : (r : BoundRules) (budget : ℕ) (x : RelaxedFields) (entry : Entry) → AreBoundRules r → AreRelaxed x → budget ≤ r.most
+    → entry ≡ entry_by (optimum r budget x) → (o : Option ℕ) → entry ≡ entry_by o → coded o < 2 ^ 32
+number_small r budget x entry rules bounds within is o e =
+    let same : optimum r budget x ≡ o = entry_by-injective _ _ (sym is ∙ e) in
+    let low : coded o ≤ 137800001 = subst (λ p. coded p ≤ 137800001) same (coded_small r budget x rules bounds within) in
+    omega (arith, low)
+
+-- the bucket is free
+pub relaxed_at : (x : RelaxedFields) (bucket : ℕ) → AreRelaxed x → AreRelaxed (at_bucket x bucket)
+relaxed_at x bucket bounds = record { iq = bounds.iq; innovation = bounds.innovation; veneration = bounds.veneration }
+
+-- one more gain on top of a number of a column, moved up, fits
+pub sum_fits : (r : BoundRules) (budget gain down : ℕ) (x : RelaxedFields) (column moved : List ℕ) → AreBoundRules r → AreRelaxed x → budget ≤ r.most → gain ≤ 100000
+    → IsColumn r budget x column → length moved ≡ length column → ((b : ℕ) → b < length column → slice_index moved b ≡ slice_index column (b - down))
+    → (k : ℕ) → k < length moved → slice_index moved k + gain < 2 ^ 32
+sum_fits r budget gain down x column moved rules bounds within small is long up k lt =
+    let inside : k < length column = omega (arith, lt, long) in
+    let there : k - down < length column = omega (arith, inside) in
+    let low : slice_index column (k - down) ≤ 137800001 =
+    subst (λ (n : ℕ). n ≤ 137800001) (sym (is.at (k - down) there)) (coded_small r budget (at_bucket x (k - down)) rules (relaxed_at x (k - down) bounds) within) in
+    let low' : slice_index moved k ≤ 137800001 = subst (λ (n : ℕ). n ≤ 137800001) (sym (up k inside)) low in
+    omega (arith, low', small)

@@ -1,0 +1,48 @@
+-- Columns: the optima of all buckets, for one budget and the same effects.
+use Rattle.std.specs.Prelude.{ℕ, zero, suc, ◌≡◌, ◌≤◌, ◌<◌, ◌+◌, ◌-◌, max, List, Option, Some, None, Contains, length, slice_index, take}
+use Rattle.std.specs.Option.{option_map}
+use Rattle.action_table.specs.declared.action.Action.{Action}
+use Rattle.action_table.specs.Table.{all_actions}
+use Rattle.race_core.specs.declared.view.View.{View}
+use Rattle.relaxed_moves.specs.FirstMoves.{leads, leads_with}
+use Rattle.relaxed_moves.specs.Moves.{RelaxedFields, AreRelaxed}
+use Rattle.relaxed_moves.specs.Places.{index_of}
+use Rattle.table_bound.specs.Bounds.{BoundRules, optimum}
+
+-- an optimum in a row: 0 where there is none, else one more
+abbrev pub coded : Option ℕ → ℕ
+coded None = 0
+coded (Some most) = 1 + most
+
+-- the relaxed state of a bucket, with the effects of another
+abbrev pub at_bucket : RelaxedFields → ℕ → RelaxedFields
+at_bucket x bucket = record x { bucket = bucket }
+
+-- the row has in each place the optimum of its bucket
+pub record IsColumn (r : BoundRules) (budget : ℕ) (x : RelaxedFields) (row : List ℕ) : Type 0 where
+  pub at : (bucket : ℕ) → bucket < length row → slice_index row bucket ≡ coded (optimum r budget (at_bucket x bucket))
+
+-- the row has in each place the greatest gain of the plans whose first move was tried
+pub record Leads (r : BoundRules) (budget : ℕ) (x : RelaxedFields) (tried : ℕ) (row : List ℕ) : Type 0 where
+  pub at : (bucket : ℕ) → bucket < length row → slice_index row bucket ≡ coded (leads r.price r.g r.grain budget (at_bucket x bucket) (take tried all_actions))
+
+-- the row has in each place the greater of what it had and what plans with this first move gain
+pub record TakesIn (r : BoundRules) (budget : ℕ) (x : RelaxedFields) (action : Action) (before after : List ℕ) : Type 0 where
+  pub at : (bucket : ℕ) → bucket < length before
+      → slice_index after bucket ≡ max (slice_index before bucket) (coded (leads_with r.price r.g r.grain budget (at_bucket x bucket) action))
+
+-- the action leads to no plan, from any bucket
+pub record LeadsNowhere (r : BoundRules) (budget : ℕ) (x : RelaxedFields) (action : Action) : Type 0 where
+  pub at : (bucket : ℕ) → leads_with r.price r.g r.grain budget (at_bucket x bucket) action ≡ None
+
+-- the action leads from each bucket to one that is so much lower in the next column, and gains the same in all
+pub record LeadsDown (r : BoundRules) (budget : ℕ) (x : RelaxedFields) (action : Action) (rest gain down : ℕ) (next : RelaxedFields) : Type 0 where
+  pub less : rest < budget
+  pub small : gain ≤ 100000
+  pub bounds : AreRelaxed next
+  pub at : (bucket : ℕ) → bucket ≤ r.grain
+      → leads_with r.price r.g r.grain budget (at_bucket x bucket) action ≡ option_map (λ most. gain + most) (optimum r rest (at_bucket next (bucket - down)))
+
+-- the seat has seen the places of the buckets below n
+pub record SeesBuckets {T : Type 0} (n : ℕ) (r : BoundRules) (budget : ℕ) (x : RelaxedFields) (view : View T) : Type 0 where
+  pub seen : (bucket : ℕ) → bucket < n → Contains view.seen (index_of r.grain budget (at_bucket x bucket))

@@ -1,0 +1,76 @@
+// Rows of numbers, where 0 stands for no list and 1 + v for the optimum v.
+ghost use Rattle.std.specs.Prelude.{◌≡◌, ℕ, ◌+◌, ◌-◌, ◌<◌, ◌^◌, length, slice_index, ◌==◌, if◌then◌else◌};
+ghost use Rattle.race_core.specs.declared.entry.Entry.{Entry};
+ghost use Rattle.relaxed_moves.specs.Moves.{AreRelaxed};
+ghost use Rattle.table_bound.specs.Bounds.{entry_by};
+ghost use Rattle.table_bound.specs.Columns.{coded, at_bucket};
+
+use race_core::Entry;
+use relaxed_moves::Relaxed;
+
+// The relaxed state of a bucket, with the effects of another.
+pub(crate) fn at_bucket(x: &Relaxed, bucket: u32) -> Relaxed
+    ensures value { result ≡ at_bucket x.now bucket }
+    ensures bounds { AreRelaxed result }
+{
+    Relaxed { bucket, ..*x }
+}
+
+// The optimum that an entry says.
+pub(crate) fn optimum_in(entry: Entry) -> Option<u32>
+    ensures { entry ≡ entry_by result }
+{
+    match entry {
+        Entry::NoList => None,
+        Entry::Best(most) => Some(most),
+    }
+}
+
+// The optimum that a number of a row stands for.
+pub(crate) fn optimum_of_number(number: u32) -> Option<u32>
+    ensures { number ≡ coded result }
+{
+    match number {
+        0 => None,
+        _ => Some(number - 1),
+    }
+}
+
+// The entry that says what a number of a row stands for.
+pub(crate) fn entry_of_number(number: u32) -> Entry
+    ensures { (o : _) → number ≡ coded o → result ≡ entry_by o }
+{
+    match number {
+        0 => Entry::NoList,
+        _ => Entry::Best(number - 1),
+    }
+}
+
+// The number of a row that stands for what an entry says.
+pub(crate) fn number_of_entry(entry: Entry) -> u32
+    requires { (o : _) → entry ≡ entry_by o → coded o < 2 ^ 32 }
+    ensures { (o : _) → entry ≡ entry_by o → result ≡ coded o }
+{
+    match entry {
+        Entry::NoList => 0,
+        Entry::Best(most) => 1 + most,
+    }
+}
+
+// Makes a row that of the empty list: no bucket is left only in bucket 0.
+pub(crate) fn begin(row: &mut [u32])
+    ensures { (bucket : ℕ) → bucket < length row.old → slice_index row.new bucket ≡ (if bucket == 0 then 1 else 0) }
+{
+    for (bucket, number) in row.iter_mut().enumerate() {
+        *number = u32::from(bucket == 0);
+    }
+}
+
+// Moves a row up by some places; the first number also takes the places that become free.
+pub(crate) fn move_up(row: &mut [u32], down: usize)
+    ensures { (bucket : ℕ) → bucket < length row.old → slice_index row.new bucket ≡ slice_index row.old (bucket - down) }
+{
+    for bucket in (0..row.len()).rev() {
+        row[bucket] = row[bucket.saturating_sub(down)];
+    }
+}
