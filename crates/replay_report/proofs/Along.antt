@@ -1,0 +1,95 @@
+-- The limits along a macro.
+use Rattle.std.proofs.Common.{◌≡◌, ◌≢◌, ◌<◌, ◌≤◌, ◌+◌, ◌++◌, ◌∷◌, ◌∙◌, [], zero, suc, ℕ, Bool, List, Option, Some, None, true, false, refl, sym, ap, subst, arith, take, length, slice_get, get_or, nat_lt, true≢false, inl, inr, ◌⊎◌, ◌||◌, length-append}
+use Rattle.std.proofs.lemmas.List.{take_all}
+use Rattle.action_table.specs.declared.action.Action.{Action}
+use Rattle.action_table.specs.declared.action.Action.TheVariants.{BasicSynthesis}
+use Rattle.craft_state.specs.Craft.{StateFields}
+use Rattle.craft_settings.specs.Ranges.{SettingsFields}
+use Rattle.step_rules.specs.Legality.{start_of, is_legal, is_complete, is_over}
+use Rattle.step_rules.specs.Macro.{Completes, counted}
+use Rattle.step_rules.specs.Run.{run_of}
+use Rattle.step_rules.proofs.LegalFacts.{legal_facts}
+use Rattle.relaxed_moves.specs.Optimum.{limit_of}
+use Rattle.replay_report.specs.Limits.{AreLimited, AreLimits, IsLimited}
+use Rattle.replay_report.proofs.Turns.{next_legal}
+
+-- the number of a state
+pub record IsNumber (g : SettingsFields) (grain : ℕ) (s : StateFields) (number : Option ℕ) : Type 0 where
+  pub going : is_complete g s ≡ false → limit_of g grain s ≡ number
+  pub done : is_complete g s ≡ true → number ≡ Some (counted g s)
+
+same_state : (o : Option StateFields) (a b : StateFields) → o ≡ Some a → o ≡ Some b → a ≡ b
+same_state o a b first second = cc
+
+-- a state before the last action isn't over
+pub before_last_live : (g : SettingsFields) (m : List Action) (count : ℕ) (s : StateFields) → count < length m → Completes g (start_of g) m
+    → run_of g (start_of g) (take count m) ≡ Some s → is_over g s ≡ false
+before_last_live g m count s before completes ran =
+    (legal_facts g s (get_or m count BasicSynthesis) (next_legal g s m count BasicSynthesis before completes ran)).live
+
+-- the state after the last action is complete
+pub last_complete : (g : SettingsFields) (m : List Action) (s : StateFields) → (whole : Completes g (start_of g) m)
+    → run_of g (start_of g) m ≡ Some s → is_complete g s ≡ true
+last_complete g m s whole ran = subst (λ x. is_complete g x ≡ true) (same_state _ _ _ whole.ran ran) whole.complete
+
+not_complete : (complete broken : Bool) → (complete || broken) ≡ false → complete ≡ false
+not_complete false broken h = refl
+not_complete true broken h = absurd (true≢false h)
+
+before_last_going : (g : SettingsFields) (m : List Action) (count : ℕ) (s : StateFields) → count < length m → Completes g (start_of g) m
+    → run_of g (start_of g) (take count m) ≡ Some s → is_complete g s ≡ false
+before_last_going g m count s before completes ran = not_complete _ _ (before_last_live g m count s before completes ran)
+
+limited_by : (g : SettingsFields) (grain : ℕ) (m : List Action) (count : ℕ) (s : StateFields) (before : Bool) → nat_lt count (length m) ≡ before → 1 ≤ count → count ≤ length m
+    → AreLimited g grain m → Completes g (start_of g) m → run_of g (start_of g) (take count m) ≡ Some s → is_complete g s ≡ false → IsLimited g grain s
+limited_by g grain m count s true test low high limited completes ran going =
+    limited.each count s low ran (before_last_live g m count s (grind arith) completes ran)
+limited_by g grain m count s false test low high limited completes ran going =
+    let all : take count m ≡ m = take_all count m (grind arith) in
+    let done = last_complete g m s completes (subst (λ (ms : List Action). run_of g (start_of g) ms ≡ Some s) all ran) in
+    absurd (true≢false (sym done ∙ going))
+
+-- each state on the way that isn't complete has a limit
+pub limited_on_way : (g : SettingsFields) (grain : ℕ) (m : List Action) (count : ℕ) (s : StateFields) → 1 ≤ count → count ≤ length m
+    → AreLimited g grain m → Completes g (start_of g) m → run_of g (start_of g) (take count m) ≡ Some s → is_complete g s ≡ false → IsLimited g grain s
+limited_on_way g grain m count s = limited_by g grain m count s (nat_lt count (length m)) refl
+
+old_number : (numbers : List ℕ) (number place : ℕ) → place < length numbers → slice_get (numbers ++ number ∷ []) place ≡ slice_get numbers place
+old_number [] number place inside = absurd (omega arith)
+old_number (n ∷ rest) number zero inside = refl
+old_number (n ∷ rest) number (suc place) inside = old_number rest number place (omega arith)
+
+new_number : (numbers : List ℕ) (number : ℕ) → slice_get (numbers ++ number ∷ []) (length numbers) ≡ Some number
+new_number [] number = refl
+new_number (n ∷ rest) number = new_number rest number
+
+abbrev pub AreNumbers : SettingsFields → ℕ → List Action → ℕ → List ℕ → Type 0
+AreNumbers g grain m count numbers =
+    (place : ℕ) (s : StateFields) → place < count → run_of g (start_of g) (take (place + 1) m) ≡ Some s → IsNumber g grain s (slice_get numbers place)
+
+number_at : (g : SettingsFields) (grain : ℕ) (m : List Action) (count : ℕ) (numbers : List ℕ) (number : ℕ) (s : StateFields) → length numbers ≡ count → AreNumbers g grain m count numbers
+    → run_of g (start_of g) (take (count + 1) m) ≡ Some s → IsNumber g grain s (Some number)
+    → (place : ℕ) (t : StateFields) (old : Bool) → nat_lt place count ≡ old → place < count + 1 → run_of g (start_of g) (take (place + 1) m) ≡ Some t → IsNumber g grain t (slice_get (numbers ++ number ∷ []) place)
+number_at g grain m count numbers number s as_many before ran is place t true test inside ran_t =
+    subst (IsNumber g grain t) (sym (old_number numbers number place (grind arith))) (before place t (grind arith) ran_t)
+number_at g grain m count numbers number s as_many before ran is place t false test inside ran_t =
+    let last : place ≡ length numbers = grind arith in
+    let same : s ≡ t = same_state (run_of g (start_of g) (take (place + 1) m)) s t (subst (λ (k : ℕ). run_of g (start_of g) (take (k + 1) m) ≡ Some s) (sym as_many ∙ sym last) ran) ran_t in
+    subst (IsNumber g grain t) (sym (new_number numbers number) ∙ ap (slice_get (numbers ++ number ∷ [])) (sym last)) (subst (λ x. IsNumber g grain x (Some number)) same is)
+
+-- one more number
+pub numbers_more : (g : SettingsFields) (grain : ℕ) (m : List Action) (count : ℕ) (numbers : List ℕ) (number : ℕ) (s : StateFields) → length numbers ≡ count → AreNumbers g grain m count numbers
+    → run_of g (start_of g) (take (count + 1) m) ≡ Some s → IsNumber g grain s (Some number) → AreNumbers g grain m (count + 1) (numbers ++ number ∷ [])
+numbers_more g grain m count numbers number s as_many before ran is place t inside ran_t =
+    number_at g grain m count numbers number s as_many before ran is place t (nat_lt place count) refl inside ran_t
+
+-- all numbers are the limits
+pub are_limits : (g : SettingsFields) (grain : ℕ) (m : List Action) (numbers : List ℕ) → Completes g (start_of g) m → length numbers ≡ length m
+    → AreNumbers g grain m (length m) numbers → AreLimits g grain m numbers
+are_limits g grain m numbers completes as_many each = record {
+  as_many = as_many;
+  before_last = λ place s before ran. sym ((each place s (omega arith) ran).going (before_last_going g m (place + 1) s before completes ran));
+  at_last = λ place s last ran.
+      let all : take (place + 1) m ≡ m = take_all (place + 1) m (omega arith) in
+      (each place s (omega arith) (subst (λ (ms : List Action). run_of g (start_of g) ms ≡ Some s) (sym all) ran)).done (last_complete g m s completes ran);
+}

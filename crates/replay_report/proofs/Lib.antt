@@ -1,0 +1,4 @@
+pub mod Along
+pub mod Complete
+pub mod Padding
+pub mod Turns

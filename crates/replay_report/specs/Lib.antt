@@ -1,0 +1,5 @@
+pub mod Columns
+pub mod Holes
+pub mod Limits
+pub mod Lines
+pub mod Report

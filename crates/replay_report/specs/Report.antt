@@ -1,0 +1,43 @@
+-- The text that is written for a macro.
+use Rattle.std.specs.Prelude.{ℕ, ◌+◌, List, [], ◌∷◌, Option, None, flat_map, slice_get, take}
+use Rattle.std.specs.List.{concat, enumerate_from}
+use Rattle.std.specs.Option.{option_map_or}
+use Rattle.action_table.specs.declared.action.Action.{Action}
+use Rattle.craft_state.specs.Craft.{StateFields}
+use Rattle.craft_settings.specs.Ranges.{SettingsFields}
+use Rattle.step_rules.specs.Legality.{start_of}
+use Rattle.step_rules.specs.Run.{run_of}
+use Rattle.macro_text.specs.Blocks.{blocks_of}
+use Rattle.replay_report.specs.Lines.{head_of, replay_line, table_row}
+use Rattle.replay_report.specs.declared.style.Report.{Report}
+use Rattle.replay_report.specs.declared.style.Report.TheVariants.{Plain, Limits}
+
+-- what is written of the state after some actions, and nothing where they don't run
+abbrev pub text_after : SettingsFields → List Action → (StateFields → List ℕ) → List ℕ
+text_after g m written = option_map_or written (run_of g (start_of g) m) []
+
+-- the first line
+abbrev pub first_line : SettingsFields → List Action → List ℕ
+first_line g m = text_after g m (head_of g m)
+
+-- the limit that the line of a place shows
+abbrev pub shown : Report → List ℕ → ℕ → Option ℕ
+shown Plain limits place = None
+shown Limits limits place = slice_get limits place
+
+-- the line of the action at a place: its number is one more, and the state is the one after as many actions
+abbrev pub step_line : SettingsFields → Report → List ℕ → List Action → ℕ × Action → List ℕ
+step_line g style limits m (place, action) =
+    text_after g (take (place + 1) m) (λ after. table_row (place + 1) action after (shown style limits place))
+
+-- the table: a line for each action
+abbrev pub table_of : SettingsFields → Report → List ℕ → List Action → List ℕ
+table_of g style limits m = flat_map (step_line g style limits m) (enumerate_from 0 m)
+
+-- the parts of the text, in order
+abbrev pub parts_of : SettingsFields → Report → List ℕ → List Action → List (List ℕ)
+parts_of g style limits m = first_line g m ∷ blocks_of m ∷ replay_line ∷ table_of g style limits m ∷ []
+
+-- the whole text
+abbrev pub report_of : SettingsFields → Report → List ℕ → List Action → List ℕ
+report_of g style limits m = concat (parts_of g style limits m)

@@ -1,0 +1,69 @@
+// The limits along a macro.
+ghost use Rattle.std.specs.Prelude.{◌≡◌, Some, IfOk, true, false};
+ghost use Rattle.seat_tables.specs.Seats.{IsOf, StillSees};
+ghost use Rattle.step_rules.specs.Legality.{IsWithin, is_complete, is_over, start_of};
+ghost use Rattle.step_rules.specs.Macro.{Completes, counted};
+ghost use Rattle.relaxed_moves.specs.Optimum.{limit_of};
+ghost use Rattle.replay_report.specs.Limits.{AreLimited, AreLimits, IsLimited};
+
+use action_table::{Action, WantMemory};
+use craft_settings::Settings;
+use craft_state::State;
+use quality_bound::{QualityTruth, limit};
+use seat_tables::{Seat, Shared};
+use std::alloc::Global;
+use step_rules::{start, step};
+
+/// The limits along a macro that completes the craft: after each action the most quality that a macro can still
+/// reach, at the table's grain, and after the last the quality that counts.
+///
+/// Table and seat are those of the craft. Each prefix of one action or more that leaves the craft going has a limit,
+/// and no greater potential than the start.
+pub fn limits(
+    alloc: Global,
+    g: &Settings,
+    shared: &Shared<QualityTruth>,
+    seat: &mut Seat<QualityTruth>,
+    actions: &[Action],
+) -> Result<Vec<u32>, WantMemory>
+    requires table { shared.now.truth.g ≡ g.now }
+    requires of { IsOf shared.now seat.old }
+    requires complete { Completes g.now (start_of g.now) actions.now }
+    requires limited { AreLimited g.now shared.now.truth.grain actions.now }
+    ensures limits { IfOk result (λ limits. AreLimits g.now shared.now.truth.grain actions.now limits.items) }
+    ensures of { IsOf shared.now seat.new }
+    ensures still { StillSees seat.old.view seat.new.view }
+{
+    let mut limits = Vec::new(alloc);
+    let mut state = start(g);
+    for &action in actions {
+        state = step(g, &state, action);
+        limits.push(limit_after(g, shared, seat, &state))?;
+    }
+    Ok(limits)
+}
+
+// The limit of a state, and the quality that counts where it completes the craft.
+fn limit_after(
+    g: &Settings,
+    shared: &Shared<QualityTruth>,
+    seat: &mut Seat<QualityTruth>,
+    s: &State,
+) -> u32
+    requires table { shared.now.truth.g ≡ g.now }
+    requires of { IsOf shared.now seat.old }
+    requires within { IsWithin g.now s.now }
+    requires limited { is_complete g.now s.now ≡ false → IsLimited g.now shared.now.truth.grain s.now }
+    ensures going { is_complete g.now s.now ≡ false → limit_of g.now shared.now.truth.grain s.now ≡ Some result }
+    ensures complete { is_complete g.now s.now ≡ true → result ≡ counted g.now s.now }
+    ensures of { IsOf shared.now seat.new }
+    ensures still { StillSees seat.old.view seat.new.view }
+{
+    if s.progress == g.progress {
+        return s.quality.min(g.cap());
+    }
+    let Some(most) = limit(shared, seat, s) else {
+        unreachable!()
+    };
+    most
+}

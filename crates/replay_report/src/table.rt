@@ -1,0 +1,34 @@
+ghost use Rattle.std.specs.Prelude.{◌≡◌, ◌≤◌, length, string_bytes, IfOk};
+ghost use Rattle.step_rules.specs.Legality.{start_of};
+ghost use Rattle.step_rules.specs.Macro.{Completes};
+ghost use Rattle.replay_report.specs.Report.{table_of};
+
+use crate::lines::push_row;
+use crate::style::{Report, shown};
+use action_table::Action;
+use craft_settings::Settings;
+use std::alloc::{AllocError, Global};
+use step_rules::{start, step};
+
+// The table of a macro: one line for each step.
+pub(crate) fn table_text(
+    alloc: Global,
+    g: &Settings,
+    actions: &[Action],
+    limits: &[u32],
+    style: &Report,
+) -> Result<String, AllocError>
+    requires complete { Completes g.now (start_of g.now) actions.now }
+    requires short { length actions.now ≤ 272 }
+    requires limits { style.now ≡ Report.Limits → length limits.now ≡ length actions.now }
+    ensures { IfOk result (λ text. string_bytes text ≡ table_of g.now style.now limits.now actions.now) }
+{
+    let mut text = String::new(alloc);
+    let mut state = start(g);
+    for (place, &action) in actions.iter().enumerate() {
+        state = step(g, &state, action);
+        let limit = shown(style, limits, place);
+        push_row(&mut text, place as u32 + 1, action, &state, limit)?;
+    }
+    Ok(text)
+}

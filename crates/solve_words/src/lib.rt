@@ -1,0 +1,119 @@
+// The words after a program's name.
+#![tactic(auto)]
+
+ghost use Rattle.std.specs.Prelude.{◌≡◌, ◌≢◌, ◌↔◌, IfOk, IfErr, IsErrOf, MatchResult, None, Some, false, map, codes, string_bytes};
+ghost use Rattle.std.specs.List.{list_any};
+ghost use Rattle.craft_settings.specs.Ranges.{IsFromTo};
+ghost use Rattle.clap.specs.Words.{app_of};
+ghost use Rattle.solve_words.specs.Clap.{app};
+ghost use Rattle.solve_words.specs.Form.{given_in, is_stray as stray};
+ghost use Rattle.solve_words.specs.Words.{FindsOptions, words_with, words_of};
+
+mod fault;
+#[cfg(test)]
+mod tests;
+mod values;
+mod words;
+
+use action_table::WantMemory;
+use clap::{Arg, ArgAction, ArgMatches};
+pub use fault::WordsFault;
+use fault::fault_for;
+pub use replay_report::Report;
+use std::alloc::Global;
+use values::{is_stray, number_or, report_or};
+pub use words::{Command, Words};
+
+const DEFAULT_WORKERS: u32 = 4;
+
+const DEFAULT_GRAIN: u32 = 16;
+
+/// Reads the words after the program's name: a command and then its options in any order, each at
+/// most once, as `--name value` or `--name=value`. The command is `solve`, with `--workers` and
+/// `--grain` of 1 to 64 and `--report` as `plain` or `limits`. BadWords comes for all other words, and for no
+/// others.
+pub fn read_words(alloc: Global, words: &[String]) -> Result<Words, WordsFault>
+    ensures ok { IfOk result (λ read. words_of (map string_bytes words.now) ≡ Some read) }
+    ensures workers { IfOk result (λ read. IsFromTo 1 64 read.workers) }
+    ensures grain { IfOk result (λ read. IsFromTo 1 64 read.grain) }
+    ensures bad { IsErrOf result WordsFault.BadWords ↔ (words_of (map string_bytes words.now) ≡ None × ¬ IsErrOf result WordsFault.WantMemory) }
+{
+    let Some((first, rest)) = words.split_first() else {
+        return Err(WordsFault::BadWords);
+    };
+    if first.as_str() == "solve" {
+        with_options(alloc, Command::Solve, &["workers", "grain", "report"], rest)
+    } else {
+        Err(WordsFault::BadWords)
+    }
+}
+
+// The command with the options that the words give it, of those with these names.
+fn with_options(
+    alloc: Global,
+    command: Command,
+    names: &[&str],
+    words: &[String],
+) -> Result<Words, WordsFault>
+    ensures form { MatchResult result (λ read. words_with command (map (λ s. s.now) names.now) (map string_bytes words.now) ≡ Some read) (λ e. e ≡ WordsFault.BadWords → words_with command (map (λ s. s.now) names.now) (map string_bytes words.now) ≡ None) }
+    ensures workers { IfOk result (λ read. IsFromTo 1 64 read.workers) }
+    ensures grain { IfOk result (λ read. IsFromTo 1 64 read.grain) }
+{
+    if has_stray(words) {
+        return Err(WordsFault::BadWords);
+    }
+    let matches = options(alloc, names, words)?;
+    let Some(workers) = number_or(matches.get_str("workers"), DEFAULT_WORKERS) else {
+        return Err(WordsFault::BadWords);
+    };
+    let Some(grain) = number_or(matches.get_str("grain"), DEFAULT_GRAIN) else {
+        return Err(WordsFault::BadWords);
+    };
+    let Some(report) = report_or(matches.get_str("report")) else {
+        return Err(WordsFault::BadWords);
+    };
+    Ok(Words {
+        command,
+        workers,
+        grain,
+        report,
+    })
+}
+
+// Some word begins with a hyphen and names no option. clap takes `--`, which the form has not.
+fn has_stray(words: &[String]) -> bool
+    ensures { result ≡ list_any (λ word. stray (string_bytes word)) words.now }
+{
+    words.iter().any(|word| is_stray(word.as_str()))
+}
+
+// The options that clap finds.
+fn options<'a>(
+    alloc: Global,
+    names: &[&'a str],
+    words: &'a [String],
+) -> Result<ArgMatches<'a>, WordsFault>
+    requires { list_any stray (map string_bytes words.now) ≡ false }
+    ensures ok { IfOk result (λ m. FindsOptions (map (λ s. s.now) names.now) (map string_bytes words.entry.now) m) }
+    ensures bad { IfErr result (λ e. e ≡ WordsFault.BadWords → given_in (map (λ s. s.now) names.now) (map string_bytes words.entry.now) ≡ None) }
+{
+    let command = command(alloc, names)?;
+    match command.try_get_matches_from(words) {
+        Ok(matches) => Ok(matches),
+        Err(error) => Err(fault_for(error.kind())),
+    }
+}
+
+// A command with these options, each with one value.
+fn command<'a>(alloc: Global, names: &[&'a str]) -> Result<clap::Command<'a>, WantMemory>
+    ensures { IfOk result (λ c. app_of c ≡ app (codes "options") (map (λ s. s.now) names.now)) }
+{
+    let mut command = clap::Command::new(alloc, "options")
+        .no_binary_name(true)
+        .disable_help_flag(true);
+    for name in names {
+        let option = Arg::new(alloc, *name).long(*name).action(ArgAction::Set);
+        command = command.arg(option)?;
+    }
+    Ok(command)
+}
