@@ -1,0 +1,26 @@
+use Rattle.solve_engine.proofs.FaultLength.{no_refusal, refuses_all}
+use Rattle.solve_engine.proofs.Ending.{wrote_best, wrote_none, wrote_part, answered_best, answered_none}
+use Rattle.solve_engine.proofs.commands.solve.Goals as goal
+
+pub returns-in-Err-Refused-clause-complete : goal.returns-in-Err-Refused-clause-complete
+returns-in-Err-Refused-clause-complete g c = λ _ _. refuses_all _ _ _ (rw c.in-Err-Refused.field-0-is at c.in-Err-Refused.ensures.halts).1
+
+pub returns-in-Err-clause-refuses : goal.returns-in-Err-clause-refuses
+returns-in-Err-clause-refuses g c = λ _. no_refusal _ _ _ c.in-Ok.ensures.answers.reads
+
+pub returns-in-Err-clause-part : goal.returns-in-Err-clause-part
+returns-in-Err-clause-part g c = λ _. wrote_part _ _ _ _ _ _ _ _ c.in-Ok.ensures.answers c.deref-2.ensures.value c.in-Err.ensures.part
+
+pub returns-then-answer-clause-complete : goal.returns-then-answer-clause-complete
+returns-then-answer-clause-complete g c =
+    λ _ _. answered_best _ _ _ _ _ (wrote_best _ _ _ _ _ _ _ _ c.in-Ok.ensures.answers c.if-answer.true c.deref-2.ensures.value c.in_default.ensures.whole)
+
+pub returns-then-answer-clause-refuses : goal.returns-then-answer-clause-refuses
+returns-then-answer-clause-refuses g c = λ _. no_refusal _ _ _ c.in-Ok.ensures.answers.reads
+
+pub returns-clause-complete : goal.returns-clause-complete
+returns-clause-complete g c =
+    λ _ _. answered_none _ _ _ _ (wrote_none _ _ _ _ _ _ _ _ c.in-Ok.ensures.answers c.if-answer.false c.deref-2.ensures.value c.in_default.ensures.whole)
+
+pub returns-clause-refuses : goal.returns-clause-refuses
+returns-clause-refuses g c = λ _. no_refusal _ _ _ c.in-Ok.ensures.answers.reads

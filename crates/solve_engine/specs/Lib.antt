@@ -1,0 +1,6 @@
+pub mod Code
+pub mod FaultLine
+pub mod Outcome
+pub mod Text
+pub mod Told
+pub mod Words

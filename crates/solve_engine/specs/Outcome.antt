@@ -1,0 +1,99 @@
+-- What a run did to its source and its sinks.
+use Rattle.std.specs.Prelude.{ℕ, ◌≡◌, ◌≢◌, ◌<◌, ◌≤◌, ◌⊎◌, List, length, take, Option, Some, ⊤, Bool, true, false}
+use Rattle.std.specs.Io.KnownBytes.{Appends, Consumes, IsAtEnd}
+use Rattle.craft_io.specs.Causes.{Rose}
+use Rattle.craft_settings.specs.Ranges.{SettingsFields}
+use Rattle.craft_settings.specs.Accepts.{Accepts}
+use Rattle.craft_settings.specs.Reading.{file_fault}
+use Rattle.craft_settings.specs.declared.fault.SettingsFault.{SettingsFault}
+use Rattle.craft_settings.specs.declared.fault.SettingsFault.TheVariants.{TooLong}
+use Rattle.macro_order.specs.Order.{NothingCompletes}
+use Rattle.replay_report.specs.declared.style.Report.{Report}
+use Rattle.solve_words.specs.declared.words.Words.{Words}
+use Rattle.solve_engine.specs.Text.{IsBestText, IsText, none_text}
+use Rattle.solve_engine.specs.FaultLine.{settings_line}
+use Rattle.solve_engine.specs.declared.reading.Halt.{Halt}
+use Rattle.solve_engine.specs.declared.reading.Halt.TheVariants.{ReadFault, Refused, WantMemory}
+
+-- the most bytes that are read: one more than a settings file may have
+abbrev pub read_most : ℕ
+read_most = 65537
+
+-- at most so many bytes were taken
+abbrev pub TakesAtMost : ℕ → Option (List ℕ) → Option (List ℕ) → Type 0
+TakesAtMost most left left' = (bytes : List ℕ) × (length bytes ≤ most) × Consumes left left' bytes
+
+-- all bytes of the source were read, and these are the settings that they are accepted as
+pub record Reads (g : SettingsFields) (left left' : Option (List ℕ)) : Type 0 where
+  pub bytes : List ℕ
+  pub read : Consumes left left' bytes
+  pub end : IsAtEnd left'
+  pub accepted : Accepts bytes g
+  pub only : (other : SettingsFields) → Accepts bytes other → other ≡ g
+
+-- a file is too long exactly where one byte too many was read; else all of it was read
+abbrev pub IsWholeUnlessLong : SettingsFault → List ℕ → Option (List ℕ) → Type 0
+IsWholeUnlessLong fault bytes left' =
+    ((fault ≡ TooLong) × (length bytes ≡ read_most)) ⊎ ((fault ≢ TooLong) × IsAtEnd left')
+
+-- the bytes that were read have this fault
+pub record ReadsFault (fault : SettingsFault) (left left' : Option (List ℕ)) : Type 0 where
+  pub bytes : List ℕ
+  pub read : Consumes left left' bytes
+  pub whole : IsWholeUnlessLong fault bytes left'
+  pub first : file_fault bytes ≡ Some fault
+
+-- the best macro's text was written whole, as these words ask for it
+pub record WritesBest (given : Words) (left left' taken taken' : Option (List ℕ)) : Type 0 where
+  pub settings : SettingsFields
+  pub reads : Reads settings left left'
+  pub text : List ℕ
+  pub best : IsBestText settings given.grain given.report text
+  pub writes : Appends taken taken' text
+
+-- `none` was written whole, where no legal macro completes
+pub record WritesNone (left left' taken taken' : Option (List ℕ)) : Type 0 where
+  pub settings : SettingsFields
+  pub reads : Reads settings left left'
+  pub nothing : NothingCompletes settings
+  pub writes : Appends taken taken' none_text
+
+-- a part of the text was written, and not the whole
+pub record WritesPart (given : Words) (left left' taken taken' : Option (List ℕ)) : Type 0 where
+  pub settings : SettingsFields
+  pub reads : Reads settings left left'
+  pub text : List ℕ
+  pub is : IsText settings given.grain given.report text
+  pub count : ℕ
+  pub short : count < length text
+  pub writes : Appends taken taken' (take count text)
+
+-- the line was written, or a part of it where the count of faults rose
+pub record Tells (line : List ℕ) (taken taken' : Option (List ℕ)) (faults faults' : ℕ) : Type 0 where
+  pub count : ℕ
+  pub within : count ≤ length line
+  pub part : Appends taken taken' (take count line)
+  pub whole : (Rose faults faults' → ⊥) → Appends taken taken' line
+
+-- the text of the best macro, or `none`
+abbrev pub IsAnswerText : SettingsFields → ℕ → Report → List ℕ → (solved : Bool) → Type 0
+IsAnswerText g grain style text true = IsBestText g grain style text
+IsAnswerText g grain style text false = NothingCompletes g × (text ≡ none_text)
+
+-- the settings that were read have this text
+pub record Answers (given : Words) (left left' : Option (List ℕ)) (text : List ℕ) (solved : Bool) : Type 0 where
+  pub settings : SettingsFields
+  pub reads : Reads settings left left'
+  pub is : IsAnswerText settings given.grain given.report text solved
+
+-- why no text came
+abbrev pub Halts : Halt → Option (List ℕ) → Option (List ℕ) → ℕ → ℕ → Type 0
+Halts ReadFault left left' faults faults' = Rose faults faults'
+Halts (Refused line) left left' faults faults' = (fault : SettingsFault) × ReadsFault fault left left' × (line.items ≡ settings_line fault)
+Halts WantMemory left left' faults faults' = ⊤
+
+-- why no bytes came
+abbrev pub HaltsReading : Halt → ℕ → ℕ → Type 0
+HaltsReading ReadFault faults faults' = Rose faults faults'
+HaltsReading (Refused line) faults faults' = ⊥
+HaltsReading WantMemory faults faults' = ⊤

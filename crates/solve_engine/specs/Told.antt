@@ -1,0 +1,58 @@
+-- What each status says of the source and the sinks.
+use Rattle.std.specs.Prelude.{ℕ, List, Option, ⊤}
+use Rattle.std.specs.Io.KnownBytes.{Appends}
+use Rattle.action_table.specs.declared.action.Action.{Action}
+use Rattle.craft_settings.specs.Ranges.{SettingsFields}
+use Rattle.craft_settings.specs.Accepts.{Accepts}
+use Rattle.craft_settings.specs.declared.fault.SettingsFault.{SettingsFault}
+use Rattle.macro_order.specs.Order.{IsBest, NothingCompletes}
+use Rattle.solve_words.specs.declared.words.Words.{Words}
+use Rattle.solve_engine.specs.declared.status.Status.{Status}
+use Rattle.solve_engine.specs.declared.status.Status.TheVariants.{Solved, NoMacro, BadWords, BadSettings, ReadFault, WriteFault, WantMemory}
+use Rattle.solve_engine.specs.FaultLine.{words_line, read_line, write_line, memory_line, settings_line}
+use Rattle.solve_engine.specs.Outcome.{ReadsFault, Tells}
+use Rattle.solve_engine.specs.Text.{IsBestText, none_text}
+
+-- the run ended before the first byte was written
+abbrev pub IsBeforeWriting : Status → Type 0
+IsBeforeWriting Solved = ⊥
+IsBeforeWriting NoMacro = ⊥
+IsBeforeWriting WriteFault = ⊥
+IsBeforeWriting _ = ⊤
+
+-- the whole text was written
+abbrev pub HasText : Status → Type 0
+HasText Solved = ⊤
+HasText NoMacro = ⊤
+HasText _ = ⊥
+
+-- the line of each status that has one
+abbrev pub TellsFault : Status → Option (List ℕ) → Option (List ℕ) → Option (List ℕ) → Option (List ℕ) → ℕ → ℕ → Type 0
+TellsFault BadWords left left' taken taken' faults faults' = Tells words_line taken taken' faults faults'
+TellsFault BadSettings left left' taken taken' faults faults' =
+    (fault : SettingsFault) × ReadsFault fault left left' × Tells (settings_line fault) taken taken' faults faults'
+TellsFault ReadFault left left' taken taken' faults faults' = Tells read_line taken taken' faults faults'
+TellsFault WriteFault left left' taken taken' faults faults' = Tells write_line taken taken' faults faults'
+TellsFault WantMemory left left' taken taken' faults faults' = Tells memory_line taken taken' faults faults'
+TellsFault _ left left' taken taken' faults faults' = ⊤
+
+-- these bytes are accepted as settings, and the whole text for them was written
+abbrev pub AnswersFor : Words → List ℕ → Status → Option (List ℕ) → Option (List ℕ) → Type 0
+AnswersFor given bytes Solved taken taken' =
+    (g : SettingsFields) × (text : List ℕ) × Accepts bytes g × IsBestText g given.grain given.report text × Appends taken taken' text
+AnswersFor given bytes NoMacro taken taken' =
+    (g : SettingsFields) × Accepts bytes g × NothingCompletes g × Appends taken taken' none_text
+AnswersFor given bytes _ taken taken' = ⊥
+
+-- a best macro, or none where no legal macro completes, or want of memory
+abbrev pub IsAnswerTo : SettingsFields → Status → Type 0
+IsAnswerTo g Solved = (m : List Action) × IsBest g m
+IsAnswerTo g NoMacro = NothingCompletes g
+IsAnswerTo g WantMemory = ⊤
+IsAnswerTo g _ = ⊥
+
+-- refused settings, or want of memory
+abbrev pub IsRefusal : Status → Type 0
+IsRefusal BadSettings = ⊤
+IsRefusal WantMemory = ⊤
+IsRefusal _ = ⊥

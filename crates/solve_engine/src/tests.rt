@@ -1,0 +1,388 @@
+use crate::{Status, run};
+use craft_io::{MemorySink, MemorySource};
+use std::alloc::{AllocError, Global};
+use std::process::Abort;
+use std::test::Fail;
+use std::thread::Threads;
+use worker_gate::FreeGate;
+
+const EASY: &str = "steps 1 seconds 3 progress 100/100 quality 0/100
+macro 1
+/ac \"Basic Synthesis\" <wait.3>
+replay
+  1 Basic Synthesis         100      0   0    0
+";
+
+pub(crate) const TOUCH: &str = "steps 2 seconds 6 progress 100/100 quality 100/500
+macro 1
+/ac \"Basic Touch\" <wait.3>
+/ac \"Basic Synthesis\" <wait.3>
+replay
+  1 Basic Touch               0    100  10    0
+  2 Basic Synthesis         100    100   0    0
+";
+
+const NO_TOUCH: &str = "steps 1 seconds 3 progress 100/100 quality 0/500
+macro 1
+/ac \"Basic Synthesis\" <wait.3>
+replay
+  1 Basic Synthesis         100      0   0   18
+";
+
+pub(crate) const TWO_TOUCHES: &str = "steps 3 seconds 9 progress 100/100 quality 210/500
+macro 1
+/ac \"Basic Touch\" <wait.3>
+/ac \"Basic Touch\" <wait.3>
+/ac \"Basic Synthesis\" <wait.3>
+replay
+  1 Basic Touch               0    100  20   18
+  2 Basic Touch               0    210  10    0
+  3 Basic Synthesis         100    210   0    0
+";
+
+const TWO_PLAIN_TOUCHES: &str = "steps 3 seconds 9 progress 100/100 quality 200/500
+macro 1
+/ac \"Basic Touch\" <wait.3>
+/ac \"Basic Touch\" <wait.3>
+/ac \"Basic Synthesis\" <wait.3>
+replay
+  1 Basic Touch               0    100  20   18
+  2 Basic Touch               0    200  10    0
+  3 Basic Synthesis         100    200   0    0
+";
+
+const MUCH_CP: &str = "steps 2 seconds 6 progress 100/100 quality 100/500
+macro 1
+/ac \"Basic Touch\" <wait.3>
+/ac \"Basic Synthesis\" <wait.3>
+replay
+  1 Basic Touch               0    100  10   88
+  2 Basic Synthesis         100    100   0   88
+";
+
+const MUCH_DURABILITY: &str = "steps 2 seconds 6 progress 100/100 quality 100/500
+macro 1
+/ac \"Basic Touch\" <wait.3>
+/ac \"Basic Synthesis\" <wait.3>
+replay
+  1 Basic Touch               0    100  90    0
+  2 Basic Synthesis         100    100  80    0
+";
+
+const VENERATION: &str = "steps 2 seconds 5 progress 150/150 quality 0/0
+macro 1
+/ac \"Veneration\" <wait.2>
+/ac \"Basic Synthesis\" <wait.3>
+replay
+  1 Veneration                0      0  20    0
+  2 Basic Synthesis         150      0  10    0
+";
+
+const INNOVATION: &str = "steps 4 seconds 10 progress 150/150 quality 150/500
+macro 1
+/ac \"Veneration\" <wait.2>
+/ac \"Innovation\" <wait.2>
+/ac \"Basic Touch\" <wait.3>
+/ac \"Basic Synthesis\" <wait.3>
+replay
+  1 Veneration                0      0  20   36
+  2 Innovation                0      0  20   18
+  3 Basic Touch               0    150  10    0
+  4 Basic Synthesis         150    150   0    0
+";
+
+const INNOVATION_LIMITS: &str = "steps 4 seconds 10 progress 150/150 quality 150/500
+macro 1
+/ac \"Veneration\" <wait.2>
+/ac \"Innovation\" <wait.2>
+/ac \"Basic Touch\" <wait.3>
+/ac \"Basic Synthesis\" <wait.3>
+replay
+  1 Veneration                0      0  20   36    250
+  2 Innovation                0      0  20   18    187
+  3 Basic Touch               0    150  10    0    150
+  4 Basic Synthesis         150    150   0    0    150
+";
+
+// At grain 16 the limits are 100.
+const COARSE_LIMITS: &str = "steps 3 seconds 9 progress 200/200 quality 100/500
+macro 1
+/ac \"Basic Synthesis\" <wait.3>
+/ac \"Basic Touch\" <wait.3>
+/ac \"Basic Synthesis\" <wait.3>
+replay
+  1 Basic Synthesis         100      0  20   36    210
+  2 Basic Touch             100    100  10   18    210
+  3 Basic Synthesis         200    100   0   18    100
+";
+
+const PERFECTION: &str = "steps 2 seconds 6 progress 360/360 quality 0/0
+macro 1
+/ac \"Trained Perfection\" <wait.3>
+/ac \"Groundwork\" <wait.3>
+replay
+  1 Trained Perfection        0      0  10   18
+  2 Groundwork              360      0  10    0
+";
+
+const GROUNDWORK: &str = "steps 1 seconds 3 progress 180/180 quality 0/0
+macro 1
+/ac \"Groundwork\" <wait.3>
+replay
+  1 Groundwork              180      0   0    0
+";
+
+const MUSCLE_MEMORY: &str = "steps 1 seconds 3 progress 180/180 quality 0/0
+macro 1
+/ac \"Muscle Memory\" <wait.3>
+replay
+  1 Muscle Memory           180      0   0   12
+";
+
+const FORBIDDEN: &str = "[actions]\nforbid = [\"muscle_memory\", \"careful_synthesis\"]\n";
+
+const READ_LINE: &str = "input: read failed\n";
+
+const WRITE_LINE: &str = "output: write failed\n";
+
+const NO_MACRO: (Status, &str, &str) = (Status::NoMacro, "none\n", "");
+
+// The numbers of a craft with base values of 100: level, CP, durability, progress and quality.
+pub(crate) const ONE_TOUCH: [u32; 5] = [5, 18, 20, 100, 500];
+
+// The file of such a craft.
+pub(crate) fn craft(alloc: Global, numbers: [u32; 5]) -> Result<String, AllocError> {
+    let [level, cp, durability, progress, quality] = numbers;
+    format!(in alloc;
+        "[crafter]\nlevel = {level}\ncp = {cp}\n[recipe]\ndurability = {durability}\nprogress = {progress}\nquality = {quality}\n[base]\nprogress = 100\nquality = 100\n"
+    )
+}
+
+// The numbers of the calls of the source, of `out` and of `err` that fail, where 0 is none, and
+// how many bytes `out` has room for.
+#[derive(Clone, Copy)]
+struct Devices {
+    read: u64,
+    write: u64,
+    tell: u64,
+    room: usize,
+}
+
+const ROOM: usize = 512;
+
+const SOUND: Devices = Devices {
+    read: 0,
+    write: 0,
+    tell: 0,
+    room: ROOM,
+};
+
+// Reads in pieces of 10 bytes and writes in pieces of 5.
+fn gives<R: AllocGlobal + Abort + Threads + Sync>(
+    rt: &R,
+    words: &[&str],
+    file: &[u8],
+    devices: Devices,
+    want: (Status, &[u8], &str),
+) -> Result<(), Fail> {
+    let (status, text, line) = want;
+    let mut given = Vec::new(rt.alloc());
+    for word in words {
+        given.push(String::from_str(rt.alloc(), *word)?)?;
+    }
+    let mut room = [0; ROOM];
+    let mut line_room = [0; 128];
+    let (read, write, tell) = ([devices.read], [devices.write], [devices.tell]);
+    let mut source = MemorySource::new(file, 10, &read);
+    let mut out = MemorySink::new(&mut room[..devices.room.min(ROOM)], 5, &write);
+    let mut err = MemorySink::new(&mut line_room, 5, &tell);
+    let answer = run(
+        rt,
+        rt.alloc(),
+        &given,
+        &mut source,
+        &mut out,
+        &mut err,
+        &FreeGate,
+    );
+    assert_eq!(rt; answer, status);
+    assert_eq!(rt; out.taken(), text);
+    assert_eq!(rt; err.taken(), line.as_bytes());
+    Ok(())
+}
+
+pub(crate) fn solves<R: AllocGlobal + Abort + Threads + Sync>(
+    rt: &R,
+    file: &[u8],
+    want: (Status, &str, &str),
+) -> Result<(), Fail> {
+    let (status, text, line) = want;
+    gives(rt, &["solve"], file, SOUND, (status, text.as_bytes(), line))
+}
+
+#[test]
+fn crafts(rt: HostRuntime) -> Result<(), Fail> {
+    for (numbers, text) in [
+        ([1, 0, 10, 100, 100], EASY),
+        (ONE_TOUCH, TOUCH),
+        ([5, 18, 10, 100, 500], NO_TOUCH),
+        ([11, 36, 30, 100, 500], TWO_TOUCHES),
+        ([10, 36, 30, 100, 500], TWO_PLAIN_TOUCHES),
+        ([7, 106, 20, 100, 500], MUCH_CP),
+        ([5, 18, 100, 100, 500], MUCH_DURABILITY),
+        ([15, 18, 20, 150, 0], VENERATION),
+        ([26, 54, 20, 150, 500], INNOVATION),
+        ([100, 18, 10, 360, 0], PERFECTION),
+        ([86, 18, 10, 180, 0], MUSCLE_MEMORY),
+    ] {
+        let file = craft(rt.alloc(), numbers)?;
+        solves(&rt, file.as_bytes(), (Status::Solved, text, ""))?;
+    }
+    let file = craft(rt.alloc(), [1, 0, 10, 101, 100])?;
+    solves(&rt, file.as_bytes(), NO_MACRO)
+}
+
+#[test]
+fn forbidden_actions(rt: HostRuntime) -> Result<(), Fail> {
+    for (progress, want) in [(180, (Status::Solved, GROUNDWORK, "")), (181, NO_MACRO)] {
+        let mut file = craft(rt.alloc(), [86, 18, 10, progress, 0])?;
+        file.push_str(FORBIDDEN)?;
+        solves(&rt, file.as_bytes(), want)?;
+    }
+    Ok(())
+}
+
+pub(crate) fn is_refused<R: AllocGlobal + Abort + Threads + Sync>(
+    rt: &R,
+    file: &str,
+    line: &str,
+) -> Result<(), Fail> {
+    solves(rt, file.as_bytes(), (Status::BadSettings, "", line))
+}
+
+#[test]
+fn refused_settings(rt: HostRuntime) -> Result<(), Fail> {
+    for (old, new, line) in [
+        ("= 20", "= 37", "37 is out of range at recipe.durability"),
+        ("= 20", "= 105", "105 is out of range at recipe.durability"),
+        ("= 18", "= -1", "-1 is out of range at crafter.cp"),
+        (
+            "18",
+            "18\ncraftsmanship = 100",
+            "base values and stats are both given",
+        ),
+        ("20", "20\nstars = 1", "unknown key recipe.stars"),
+        (
+            "[recipe]",
+            "craftsmanship = 100\n[recipe]\nstars = 1",
+            "unknown key recipe.stars",
+        ),
+        ("18", "\"18\"", "wrong kind of value at crafter.cp"),
+        (
+            "[base]",
+            "[actions]\nforbid = [\"basic_tuch\"]\n[base]",
+            "unknown action basic_tuch",
+        ),
+    ] {
+        let file = craft(rt.alloc(), ONE_TOUCH)?;
+        let other = file.replace(rt.alloc(), old, new)?;
+        let line = format!(in rt.alloc(); "settings: {line}\n")?;
+        is_refused(&rt, other.as_str(), line.as_str())?;
+    }
+    is_refused(&rt, "", "settings: missing key crafter.level\n")?;
+    is_refused(&rt, "=", "settings: not a TOML document\n")
+}
+
+#[test]
+fn longest_file(rt: HostRuntime) -> Result<(), Fail> {
+    let file = craft(rt.alloc(), ONE_TOUCH)?;
+    let mut bytes = file.into_bytes();
+    bytes.push(b'#')?;
+    bytes.resize(65536, b'x')?;
+    solves(&rt, &bytes, (Status::Solved, TOUCH, ""))?;
+    bytes.push(b'x')?;
+    let want = (Status::BadSettings, "", "settings: too long\n");
+    solves(&rt, &bytes, want)
+}
+
+// The file has 118 bytes and the text 220. `out` takes the first `taken` bytes of the text.
+fn fails<R: AllocGlobal + Abort + Threads + Sync>(
+    rt: &R,
+    devices: Devices,
+    status: Status,
+    taken: usize,
+    line: &str,
+) -> Result<(), Fail> {
+    let file = craft(rt.alloc(), ONE_TOUCH)?;
+    let text = TOUCH.as_bytes();
+    let text = &text[..taken.min(text.len())];
+    let want = (status, text, line);
+    gives(rt, &["solve"], file.as_bytes(), devices, want)
+}
+
+#[test]
+fn failing_devices(rt: HostRuntime) -> Result<(), Fail> {
+    for read in 1..=13 {
+        let devices = Devices { read, ..SOUND };
+        fails(&rt, devices, Status::ReadFault, 0, READ_LINE)?;
+    }
+    for earlier in 0..44u32 {
+        let devices = Devices {
+            write: u64::from(earlier) + 1,
+            ..SOUND
+        };
+        let taken = 5 * earlier as usize;
+        fails(&rt, devices, Status::WriteFault, taken, WRITE_LINE)?;
+    }
+    for (read, write, tell, room, status, taken, line) in [
+        (14, 0, 0, ROOM, Status::Solved, 220, ""),
+        (0, 45, 0, ROOM, Status::Solved, 220, ""),
+        (0, 45, 1, ROOM, Status::Solved, 220, ""),
+        (0, 0, 0, 220, Status::Solved, 220, ""),
+        (0, 0, 0, 219, Status::WriteFault, 219, WRITE_LINE),
+        (0, 0, 0, 100, Status::WriteFault, 100, WRITE_LINE),
+        (1, 0, 1, ROOM, Status::ReadFault, 0, ""),
+        (0, 2, 1, ROOM, Status::WriteFault, 5, ""),
+        (0, 2, 3, ROOM, Status::WriteFault, 5, "output: wr"),
+    ] {
+        let devices = Devices {
+            read,
+            write,
+            tell,
+            room,
+        };
+        fails(&rt, devices, status, taken, line)?;
+    }
+    Ok(())
+}
+
+// Words that are not understood leave the source unread, so its first call does not fail.
+fn is_bad<R: AllocGlobal + Abort + Threads + Sync>(rt: &R, words: &[&str]) -> Result<(), Fail> {
+    let devices = Devices { read: 1, ..SOUND };
+    let want = (Status::BadWords, b"".as_slice(), "words: not understood\n");
+    gives(rt, words, b"", devices, want)
+}
+
+#[test]
+fn given_words(rt: HostRuntime) -> Result<(), Fail> {
+    is_bad(&rt, &[])?;
+    is_bad(&rt, &["Solve"])?;
+    is_bad(&rt, &["solve", "--"])?;
+    is_bad(&rt, &["solve", "--report", "levels"])?;
+    let file = craft(rt.alloc(), ONE_TOUCH)?;
+    let words = ["solve", "--workers=64", "--report", "plain", "--grain", "8"];
+    let want = (Status::Solved, TOUCH.as_bytes(), "");
+    gives(&rt, &words, file.as_bytes(), SOUND, want)
+}
+
+#[test]
+fn limits(rt: HostRuntime) -> Result<(), Fail> {
+    let file = craft(rt.alloc(), [26, 54, 20, 150, 500])?;
+    let words = ["solve", "--workers=64", "--report", "limits"];
+    let want = (Status::Solved, INNOVATION_LIMITS.as_bytes(), "");
+    gives(&rt, &words, file.as_bytes(), SOUND, want)?;
+    let file = craft(rt.alloc(), [11, 36, 30, 200, 500])?;
+    let words = ["solve", "--report=limits", "--grain", "1"];
+    let want = (Status::Solved, COARSE_LIMITS.as_bytes(), "");
+    gives(&rt, &words, file.as_bytes(), SOUND, want)
+}
