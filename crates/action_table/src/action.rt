@@ -35,6 +35,9 @@ pub enum Action {
 }
 
 impl Action {
+    /// How many actions there are.
+    pub const COUNT: u8 = 26;
+
     /// The place of the action in the action order, counted from 0.
     pub fn number(self) -> u8
         ensures value { result ≡ number_of self }

@@ -12,9 +12,6 @@ use craft_state::{Combo, Effects, Perfection, State};
 use smallvec::SmallVec;
 use std::alloc::Global;
 
-// How many actions there are.
-const ACTIONS: u8 = 26;
-
 /// Why an action isn't legal. The order of the variants is the order in which the reasons are tried.
 #[derive(Clone, Copy, PartialEq, Eq, Debug)]
 pub enum Illegal {
@@ -146,7 +143,7 @@ pub fn legal(alloc: Global, g: &Settings, s: &State) -> SmallVec<Action, 32>
     ensures inline { result.capacity ≡ 32 }
 {
     let mut found = SmallVec::new(alloc);
-    for number in 0..ACTIONS {
+    for number in 0..Action::COUNT {
         if let Some(action) = Action::from_number(number) {
             if check(g, s, action).is_ok() {
                 found.push_reserved(action);
