@@ -1,8 +1,12 @@
-pub mod Groupings
-pub mod Keys
+pub mod Covered
+pub mod Divisions
+pub mod Equals
+pub mod Indexed
 pub mod Marks
 pub mod Members
 pub mod Merge
+pub mod Packed
 pub mod Places
 pub mod Rows
 pub mod Sweeps
+pub mod Vectors

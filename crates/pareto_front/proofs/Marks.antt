@@ -1,9 +1,10 @@
 -- Marks by place.
-use Rattle.std.proofs.Common.{◌≡◌, ◌∙◌, ℕ, ◌+◌, ◌<◌, ◌≤◌, ◌==◌, ◌||◌, Bool, true, false, List, [], ◌∷◌, ◌++◌, length, get_or, set, take, drop, append-nil, inl, inr, ◌⊎◌, arith, refl, ap, sym, subst}
+use Rattle.std.proofs.Common.{◌≡◌, ◌∙◌, ℕ, ◌+◌, ◌<◌, ◌≤◌, ◌==◌, ◌||◌, Bool, true, false, List, [], ◌∷◌, ◌++◌, length, get_or, set, take, drop, append-nil, inl, inr, arith, refl, ap, sym, subst}
 use Rattle.std.specs.List.{list_any}
 use Rattle.std.proofs.lemmas.List.{take_more, take_all, drop_all, length-set, get_or-set_same, get_or-set_other}
-use Rattle.pareto_front.specs.declared.groups.Entry.{Entry}
-use Rattle.pareto_front.specs.Groups.{has_place, AreMarked, AreMarks}
+use Rattle.pareto_front.specs.declared.parts.Entry.{Entry}
+use Rattle.pareto_front.specs.Parts.{has_place, AreMarked, AreMarks}
+use Rattle.pareto_front.proofs.Equals.{same_number, other_number, same_or_other}
 
 pub any-append : {X : Type 0} (t : X → Bool) (xs ys : List X) → list_any t (xs ++ ys) ≡ (list_any t xs || list_any t ys)
 any-append t [] ys = refl
@@ -26,58 +27,49 @@ set_here : (b : Bool) → (b || true) ≡ true
 set_here true = refl
 set_here false = refl
 
-same_number : (a : ℕ) → (a == a) ≡ true
-same_number a = grind arith
-
-other_number : (a b : ℕ) → (a ≡ b → ⊥) → (a == b) ≡ false
-other_number a b h = grind arith
-
-cases_eq : (a b : ℕ) → (a ≡ b) ⊎ (a ≡ b → ⊥)
-cases_eq a b = grind arith
-
 abbrev pub blank_entry : Entry
-blank_entry = record { seconds = 0; place = 0; cp = 0; durability = 0; quality = 0 }
+blank_entry = record { key = 0; place = 0; seconds = 0; numbers = record { cp = 0; durability = 0; quality = 0 } }
 
--- the next entry's place is marked
-pub marked-set : (entries : List Entry) (i : ℕ) (x : Entry) (before now : List Bool) → i < length entries → x ≡ get_or entries i x → x.place < length now →
-    AreMarked (take i entries) before now → AreMarked (take (i + 1) entries) before (set now x.place true)
-marked-set entries i x before now inside is low marked = record {
-  as_many = length-set now x.place true ∙ marked.as_many;
-  set = λ j d below. elim (cases_eq j x.place) [
+-- the next place is marked
+pub marked-set : (places : List ℕ) (i : ℕ) (x : ℕ) (before now : List Bool) → i < length places → x ≡ get_or places i x → x < length now →
+    AreMarked (take i places) before now → AreMarked (take (i + 1) places) before (set now x true)
+marked-set places i x before now inside is low marked = record {
+  as_many = length-set now x true ∙ marked.as_many;
+  set = λ j d below. elim (same_or_other j x) [
     | inl here ↦
-        let more : has_place j (take (i + 1) entries) ≡ (has_place j (take i entries) || (x.place == j)) = any-more (λ e. e.place == j) entries i x inside is in
-        let hit : (x.place == j) ≡ true = subst (λ (k : ℕ). (x.place == k) ≡ true) (sym here) (same_number x.place) in
-        subst (λ (k : ℕ). get_or (set now x.place true) k d ≡ true) (sym here) (get_or-set_same now x.place true d low)
-        ∙ sym (ap (λ b. get_or before j d || b) (more ∙ ap (λ b. has_place j (take i entries) || b) hit ∙ set_here (has_place j (take i entries))) ∙ set_here (get_or before j d))
+        let more : has_place j (take (i + 1) places) ≡ (has_place j (take i places) || (x == j)) = any-more (λ p. p == j) places i x inside is in
+        let hit : (x == j) ≡ true = subst (λ (k : ℕ). (x == k) ≡ true) (sym here) (same_number x x refl) in
+        subst (λ (k : ℕ). get_or (set now x true) k d ≡ true) (sym here) (get_or-set_same now x true d low)
+        ∙ sym (ap (λ b. get_or before j d || b) (more ∙ ap (λ b. has_place j (take i places) || b) hit ∙ set_here (has_place j (take i places))) ∙ set_here (get_or before j d))
     | inr other ↦
-        let more : has_place j (take (i + 1) entries) ≡ (has_place j (take i entries) || (x.place == j)) = any-more (λ e. e.place == j) entries i x inside is in
-        let miss : (x.place == j) ≡ false = other_number x.place j (λ e. other (sym e)) in
-        get_or-set_other now x.place j true d other ∙ marked.set j d below
-        ∙ sym (ap (λ b. get_or before j d || b) (more ∙ ap (λ b. has_place j (take i entries) || b) miss ∙ or_false (has_place j (take i entries))))
+        let more : has_place j (take (i + 1) places) ≡ (has_place j (take i places) || (x == j)) = any-more (λ p. p == j) places i x inside is in
+        let miss : (x == j) ≡ false = other_number x j (λ e. other (sym e)) in
+        get_or-set_other now x j true d other ∙ marked.set j d below
+        ∙ sym (ap (λ b. get_or before j d || b) (more ∙ ap (λ b. has_place j (take i places) || b) miss ∙ or_false (has_place j (take i places))))
   ];
 }
 
--- the next entry's place has no mark
-pub marked-skip : (entries : List Entry) (i : ℕ) (x : Entry) (before now : List Bool) → i < length entries → x ≡ get_or entries i x → length now ≤ x.place →
-    AreMarked (take i entries) before now → AreMarked (take (i + 1) entries) before now
-marked-skip entries i x before now inside is high marked = record {
+-- the next place has no mark
+pub marked-skip : (places : List ℕ) (i : ℕ) (x : ℕ) (before now : List Bool) → i < length places → x ≡ get_or places i x → length now ≤ x →
+    AreMarked (take i places) before now → AreMarked (take (i + 1) places) before now
+marked-skip places i x before now inside is high marked = record {
   as_many = marked.as_many;
   set = λ j d below.
-      let more : has_place j (take (i + 1) entries) ≡ (has_place j (take i entries) || (x.place == j)) = any-more (λ e. e.place == j) entries i x inside is in
-      let miss : (x.place == j) ≡ false = other_number x.place j (λ e. apart x.place j (length now) (length before) e high below marked.as_many) in
-      marked.set j d below ∙ sym (ap (λ b. get_or before j d || b) (more ∙ ap (λ b. has_place j (take i entries) || b) miss ∙ or_false (has_place j (take i entries))));
+      let more : has_place j (take (i + 1) places) ≡ (has_place j (take i places) || (x == j)) = any-more (λ p. p == j) places i x inside is in
+      let miss : (x == j) ≡ false = other_number x j (λ e. apart x j (length now) (length before) e high below marked.as_many) in
+      marked.set j d below ∙ sym (ap (λ b. get_or before j d || b) (more ∙ ap (λ b. has_place j (take i places) || b) miss ∙ or_false (has_place j (take i places))));
 } where
   apart : (p j m n : ℕ) → p ≡ j → m ≤ p → j < n → m ≡ n → ⊥
   apart p j m n e h k f = absurd (omega (arith, e, h, k, f))
 
 -- the next list's places are marked
-pub marks-more : (kept : List (List Entry)) (i : ℕ) (entries : List Entry) (count : ℕ) (before after : List Bool) → i < length kept → entries ≡ get_or kept i entries →
-    AreMarks count (take i kept) before → AreMarked entries before after → AreMarks count (take (i + 1) kept) after
-marks-more kept i entries count before after inside is marks marked = record {
+pub marks-more : (kept : List (List ℕ)) (i : ℕ) (places : List ℕ) (count : ℕ) (before after : List Bool) → i < length kept → places ≡ get_or kept i places →
+    AreMarks count (take i kept) before → AreMarked places before after → AreMarks count (take (i + 1) kept) after
+marks-more kept i places count before after inside is marks marked = record {
   as_many = marked.as_many ∙ marks.as_many;
   set = λ j d below.
-      marked.set j d (omega (arith, below, marks.as_many)) ∙ ap (λ b. b || has_place j entries) (marks.set j d below)
-      ∙ sym (any-more (has_place j) kept i entries inside is);
+      marked.set j d (omega (arith, below, marks.as_many)) ∙ ap (λ b. b || has_place j places) (marks.set j d below)
+      ∙ sym (any-more (has_place j) kept i places inside is);
 }
 
 -- a slice that is written whole

@@ -1,44 +1,54 @@
 -- A mark is set exactly where no node of the level covers.
-use Rattle.std.proofs.Common.{◌≡◌, ◌∙◌, ℕ, zero, suc, ◌+◌, ◌<◌, ◌≤◌, inl, inr, ◌&&◌, ◌||◌, ◌==◌, nat_lt, nat_le, not, Bool, true, false, List, [], ◌∷◌, length, get_or, map, Contains, Vec, Result, Ok, Err, IfOk, MatchResult, arith, refl, ap, sym, subst}
+use Rattle.std.proofs.Common.{◌≡◌, ◌∙◌, ℕ, zero, suc, ◌+◌, ◌<◌, ◌&&◌, ◌==◌, not, Bool, true, false, List, [], ◌∷◌, length, get_or, map, Contains, Vec, Result, Ok, Err, IfOk, MatchResult, arith, refl, ap, sym, subst}
 use Rattle.std.specs.List.{list_any, enumerate_from, AllZip}
 use Rattle.std.proofs.lemmas.Bool.Decides.{nat_tests}
 use Rattle.std.proofs.lemmas.List.{get_or_default}
 use Rattle.std.proofs.lemmas.List.FromFn.{length-enumerate_from, get_or-enumerate_from}
-use Rattle.craft_state.specs.NotLess.{is_not_less}
+use Rattle.craft_state.specs.Craft.{AreEffects}
 use Rattle.pareto_front.specs.declared.node.Node.{Node}
-use Rattle.pareto_front.specs.declared.groups.Entry.{Entry}
-use Rattle.pareto_front.specs.declared.groups.Key.{Key}
-use Rattle.pareto_front.specs.Covers.{is_earlier, covers, is_covered}
-use Rattle.pareto_front.specs.Groups.{key_of, entry_of, items_of, outdoes, survives, Keeps, AreGroups, AreMarks, has_place}
-use Rattle.prefix_fronts.proofs.Lists.{Among, bool_cases, clash, same_answer, any-Among, Among-any}
-use Rattle.prefix_fronts.proofs.Dominance.{and_both, and_by, IsNotLess-from, is_not_less-by}
+use Rattle.pareto_front.specs.declared.parts.Entry.{Entry}
+use Rattle.pareto_front.specs.Columns.{numbers_of, reaches}
+use Rattle.pareto_front.specs.Covers.{is_earlier, covers, is_covered, uncovered}
+use Rattle.pareto_front.specs.Keys.{key_of}
+use Rattle.pareto_front.specs.Lists.{items_of}
+use Rattle.pareto_front.specs.Parts.{part_of, entry_of, outdoes, survives, Keeps, AreParts, AreMarks, has_place, marked_of}
+use Rattle.prefix_fronts.proofs.Lists.{Among, same_answer, any-Among, Among-any, filter-same}
 use Rattle.prefix_fronts.proofs.Members.{Among-get_or}
+use Rattle.pareto_front.proofs.Indexed.{not_less-key}
 use Rattle.pareto_front.proofs.Members.{Contains-Among, Among-Contains, Among-place}
+use Rattle.pareto_front.proofs.Sweeps.{outdoes-key}
+use Rattle.pareto_front.proofs.Equals.{number_same, same_number}
 
-abbrev pub KeepsAll : List (List Entry) → List (List Entry) → Type 0
-KeepsAll groups kept = AllZip Keeps groups kept
+abbrev pub KeepsAll : List (List Entry) → List (List ℕ) → Type 0
+KeepsAll parts kept = AllZip Keeps parts kept
 
 -- list by list
-pub keeps-at : (groups kept : List (List Entry)) (g : ℕ) → KeepsAll groups kept → g < length groups → Keeps (get_or groups g []) (get_or kept g [])
+keeps-at : (parts : List (List Entry)) (kept : List (List ℕ)) (g : ℕ) → KeepsAll parts kept → g < length parts → Keeps (get_or parts g []) (get_or kept g [])
 keeps-at [] kept g all low = absurd (omega (arith, low))
-keeps-at (x ∷ groups) [] g all low = absurd all
-keeps-at (x ∷ groups) (y ∷ kept) zero all low = all.0
-keeps-at (x ∷ groups) (y ∷ kept) (suc g) all low = keeps-at groups kept g all.1 (omega (arith, low))
+keeps-at (x ∷ parts) [] g all low = absurd all
+keeps-at (x ∷ parts) (y ∷ kept) zero all low = all.0
+keeps-at (x ∷ parts) (y ∷ kept) (suc g) all low = keeps-at parts kept g all.1 (omega (arith, low))
 
-pub length-keeps : (groups kept : List (List Entry)) → KeepsAll groups kept → length kept ≡ length groups
+length-keeps : (parts : List (List Entry)) (kept : List (List ℕ)) → KeepsAll parts kept → length kept ≡ length parts
 length-keeps [] [] all = refl
 length-keeps [] (y ∷ kept) all = absurd all
-length-keeps (x ∷ groups) [] all = absurd all
-length-keeps (x ∷ groups) (y ∷ kept) all = ap suc (length-keeps groups kept all.1)
+length-keeps (x ∷ parts) [] all = absurd all
+length-keeps (x ∷ parts) (y ∷ kept) all = ap suc (length-keeps parts kept all.1)
+
+-- nothing is in a part past the end
+inside_part : (parts : List (List Entry)) (g : ℕ) (e : Entry) → Contains (get_or parts g []) e → g < length parts
+inside_part [] g e h = absurd (omega (arith, h.1))
+inside_part (x ∷ parts) zero e h = omega arith
+inside_part (x ∷ parts) (suc g) e h = let r = inside_part parts g e h in omega (arith, r)
 
 -- a node with its place in the level
-pub node-Among : (level : List Node) (i : ℕ) (a : Node) → i < length level → a ≡ get_or level i a → Among (i, a) (enumerate_from 0 level)
+node-Among : (level : List Node) (i : ℕ) (a : Node) → i < length level → a ≡ get_or level i a → Among (i, a) (enumerate_from 0 level)
 node-Among level i a low is =
     let zero_more : 0 + i ≡ i = omega arith in
     let at : get_or (enumerate_from 0 level) i (i, a) ≡ (i, a) = get_or-enumerate_from 0 level i (i, a) low ∙ (λ j. (zero_more j, sym is j)) in
     subst (λ (p : ℕ × Node). Among p (enumerate_from 0 level)) at (Among-get_or (enumerate_from 0 level) i (i, a) (omega (arith, low, length-enumerate_from 0 level)))
 
-pub Among-node : (level : List Node) (p : ℕ × Node) → Among p (enumerate_from 0 level) → (p.0 < length level) × (p.1 ≡ get_or level p.0 p.1)
+Among-node : (level : List Node) (p : ℕ × Node) → Among p (enumerate_from 0 level) → (p.0 < length level) × (p.1 ≡ get_or level p.0 p.1)
 Among-node level p h =
     let found = Among-place p (enumerate_from 0 level) h in
     let low : found.place < length level = omega (arith, found.inside, length-enumerate_from 0 level) in
@@ -47,117 +57,95 @@ Among-node level p h =
     let place : p.0 ≡ found.place = omega (arith, first) in
     (omega (arith, place, low), ap (λ (q : ℕ × Node). q.1) both ∙ ap (λ (i : ℕ). get_or level i p.1) (sym place))
 
--- covers, of nodes with one key
-covers-outdoes : (i j : ℕ) (a b : Node) → covers i a j b ≡ true → outdoes (entry_of i a) (entry_of j b) ≡ true
+flipped : (a b : ℕ) → (a == b) ≡ (b == a)
+flipped a b = grind (arith, nat_tests)
+
+-- a node covers another exactly where its entry outdoes the other's
+covers-outdoes : (i j : ℕ) (a b : Node) → AreEffects a.state.effects → AreEffects b.state.effects → covers i a j b ≡ outdoes (entry_of i a) (entry_of j b)
 unfolding covers outdoes
-covers-outdoes i j a b h =
-    let both = and_both (is_not_less a.state b.state) (is_earlier i a j b) h in
-    let better = IsNotLess-from a.state b.state both.0 in
-    by better.cp better.durability better.quality both.1 where
-      by : b.state.cp ≤ a.state.cp → b.state.durability ≤ a.state.durability → b.state.quality ≤ a.state.quality → is_earlier i a j b ≡ true →
-          (nat_le b.state.cp a.state.cp && nat_le b.state.durability a.state.durability && nat_le b.state.quality a.state.quality && (nat_lt a.seconds b.seconds || (a.seconds == b.seconds && nat_lt i j))) ≡ true
-      by h k l m = grind (arith, nat_tests)
+covers-outdoes i j a b ba bb =
+    ap (λ (t : Bool). t && is_earlier i a j b) (not_less-key a.state b.state ba bb ∙ ap (λ (t : Bool). t && reaches (numbers_of a.state) (numbers_of b.state)) (flipped (key_of b.state) (key_of a.state)))
 
-covers-key : (i j : ℕ) (a b : Node) → covers i a j b ≡ true → key_of a ≡ key_of b
-unfolding covers
-covers-key i j a b h =
-    let both = and_both (is_not_less a.state b.state) (is_earlier i a j b) h in
-    let better = IsNotLess-from a.state b.state both.0 in
-    λ k. record { progress = better.progress k; effects = better.effects k }
+-- a node survives in the part of its key exactly where no node covers it
+survives-uncovered : (level : List Node) (parts : List (List Entry)) (j : ℕ) (b : Node) → AreParts level (length level) parts → j < length level → b ≡ get_or level j b →
+    survives (get_or parts (part_of (key_of b.state) (length parts)) []) (entry_of j b) ≡ not (is_covered level j b)
+survives-uncovered level parts j b are low is =
+    ap not (same_answer (list_any (λ o. outdoes o (entry_of j b)) part) (is_covered level j b) to from) where
+      part : List Entry
+      part = get_or parts (part_of (key_of b.state) (length parts)) []
 
--- what the tests of an entry against another say
-all_four : (a b i j : ℕ) (p q r s t u : ℕ) → (nat_le p q && nat_le r s && nat_le t u && (nat_lt a b || (a == b && nat_lt i j))) ≡ true →
-    (p ≤ q) × (r ≤ s) × (t ≤ u) × ((nat_lt a b || (a == b && nat_lt i j)) ≡ true)
-all_four a b i j p q r s t u h = (grind (arith, nat_tests), grind (arith, nat_tests), grind (arith, nat_tests), grind (arith, nat_tests))
+      bounds : AreEffects b.state.effects
+      bounds = are.effects j b low is
 
-outdoes-covers : (i j : ℕ) (a b : Node) → key_of a ≡ key_of b → outdoes (entry_of i a) (entry_of j b) ≡ true → covers i a j b ≡ true
-unfolding covers outdoes
-outdoes-covers i j a b same h =
-    let four = all_four a.seconds b.seconds i j b.state.cp a.state.cp b.state.durability a.state.durability b.state.quality a.state.quality h in
-    and_by (is_not_less a.state b.state) (is_earlier i a j b)
-    (is_not_less-by a.state b.state record { progress = ap (λ (k : Key). k.progress) same; effects = ap (λ (k : Key). k.effects) same; cp = four.0; durability = four.1; quality = four.2 })
-    four.3
-
--- a node is covered exactly where its entry doesn't survive in its group
-covered-outdone : (level : List Node) (keys : List Key) (groups : List (List Entry)) (g j : ℕ) (b : Node) → AreGroups level (length level) keys groups →
-    g < length groups → b ≡ get_or level j b → Contains (get_or groups g []) (entry_of j b) → is_covered level j b ≡ true → survives (get_or groups g []) (entry_of j b) ≡ false
-covered-outdone level keys groups g j b are low is here covered =
-    let w = any-Among (λ (p : ℕ × Node). covers p.0 p.1 j b) (enumerate_from 0 level) covered in
-    let i = w.0.0 in
-    let a = w.0.1 in
-    let node = Among-node level w.0 w.1 in
-    let home = are.whole i a node.0 node.1 in
-    let mine = are.alike g (entry_of j b) b (key_of b) low here is in
-    let other = are.alike home.0 (entry_of i a) a (key_of b) home.1 home.2 node.1 in
-    let same : home.0 ≡ g = are.distinct home.0 g (key_of b) (omega (arith, home.1, are.as_many)) (omega (arith, low, are.as_many)) (sym other ∙ covers-key i j a b w.2 ∙ mine) in
-    let member : Among (entry_of i a) (get_or groups g []) = Contains-Among (get_or groups g []) (entry_of i a) (subst (λ (k : ℕ). Contains (get_or groups k []) (entry_of i a)) same home.2) in
-    ap not (Among-any (λ o. outdoes o (entry_of j b)) (entry_of i a) (get_or groups g []) member (covers-outdoes i j a b w.2))
-
-outdone-covered : (level : List Node) (keys : List Key) (groups : List (List Entry)) (g j : ℕ) (b : Node) → AreGroups level (length level) keys groups →
-    g < length groups → b ≡ get_or level j b → Contains (get_or groups g []) (entry_of j b) → is_covered level j b ≡ false → survives (get_or groups g []) (entry_of j b) ≡ true
-outdone-covered level keys groups g j b are low is here free =
-    elim (bool_cases (list_any (λ o. outdoes o (entry_of j b)) (get_or groups g []))) [
-      | inl some ↦
-          let w = any-Among (λ o. outdoes o (entry_of j b)) (get_or groups g []) some in
-          let member : Contains (get_or groups g []) w.0 = Among-Contains (get_or groups g []) w.0 w.1 in
-          let e = are.entries g w.0 low member in
-          let mine = are.alike g (entry_of j b) b (key_of b) low here is in
-          let other = are.alike g w.0 e.node (key_of b) low member e.at in
+      to : list_any (λ o. outdoes o (entry_of j b)) part ≡ true → is_covered level j b ≡ true
+      to some =
+          let w = any-Among (λ o. outdoes o (entry_of j b)) part some in
+          let e = (are.entries (part_of (key_of b.state) (length parts)) w.0 (Among-Contains part w.0 w.1)).0 in
           let over : outdoes (entry_of w.0.place e.node) (entry_of j b) ≡ true = subst (λ (o : Entry). outdoes o (entry_of j b) ≡ true) e.is w.2 in
-          let cover = outdoes-covers w.0.place j e.node b (other ∙ sym mine) over in
-          absurd (clash (Among-any (λ (p : ℕ × Node). covers p.0 p.1 j b) (w.0.place, e.node) (enumerate_from 0 level) (node-Among level w.0.place e.node e.below e.at) cover) free)
-      | inr none ↦ ap not none
-    ]
+          let cover : covers w.0.place e.node j b ≡ true = covers-outdoes w.0.place j e.node b (are.effects w.0.place e.node e.below e.at) bounds ∙ over in
+          Among-any (λ (p : ℕ × Node). covers p.0 p.1 j b) (w.0.place, e.node) (enumerate_from 0 level) (node-Among level w.0.place e.node e.below e.at) cover
+
+      from : is_covered level j b ≡ true → list_any (λ o. outdoes o (entry_of j b)) part ≡ true
+      from covered =
+          let w = any-Among (λ (p : ℕ × Node). covers p.0 p.1 j b) (enumerate_from 0 level) covered in
+          let i = w.0.0 in
+          let a = w.0.1 in
+          let node = Among-node level w.0 w.1 in
+          let over : outdoes (entry_of i a) (entry_of j b) ≡ true = sym (covers-outdoes i j a b (are.effects i a node.0 node.1) bounds) ∙ w.2 in
+          let home = are.whole i a node.0 node.1 in
+          let member : Contains part (entry_of i a) = subst (λ (k : ℕ). Contains (get_or parts (part_of k (length parts)) []) (entry_of i a)) (outdoes-key (entry_of i a) (entry_of j b) over) home in
+          Among-any (λ o. outdoes o (entry_of j b)) (entry_of i a) part (Contains-Among part (entry_of i a) member) over
 
 -- the mark of a place
-pub mark-says : (level : List Node) (keys : List Key) (groups kept : List (List Entry)) (marks : List Bool) (j : ℕ) (b : Node) (mark : Bool) → AreGroups level (length level) keys groups →
-    KeepsAll groups kept → AreMarks (length level) kept marks → j < length level → b ≡ get_or level j b → get_or marks j mark ≡ not (is_covered level j b)
-mark-says level keys groups kept marks j b mark are all set low is = set.set j mark low ∙ same_answer (list_any (has_place j) kept) (not (is_covered level j b)) to from where
-  equal : (x : ℕ) → (x == j) ≡ true → x ≡ j
-  equal x h = grind (arith, nat_tests)
-
-  self : (x : ℕ) → x ≡ j → (x == j) ≡ true
-  self x h = grind (arith, nat_tests)
+mark-says : (level : List Node) (parts : List (List Entry)) (kept : List (List ℕ)) (marks : List Bool) (j : ℕ) (b : Node) (mark : Bool) → AreParts level (length level) parts →
+    KeepsAll parts kept → AreMarks (length level) kept marks → j < length level → b ≡ get_or level j b → get_or marks j mark ≡ not (is_covered level j b)
+mark-says level parts kept marks j b mark are all set low is = set.set j mark low ∙ same_answer (list_any (has_place j) kept) (not (is_covered level j b)) to from where
+  mine : survives (get_or parts (part_of (key_of b.state) (length parts)) []) (entry_of j b) ≡ not (is_covered level j b)
+  mine = survives-uncovered level parts j b are low is
 
   to : list_any (has_place j) kept ≡ true → not (is_covered level j b) ≡ true
   to h =
       let w = any-Among (has_place j) kept h in
       let list = Among-place w.0 kept w.1 in
       let g = list.place in
-      let within : g < length groups = omega (arith, list.inside, length-keeps groups kept all) in
-      let keeps = subst (λ (l : List Entry). Keeps (get_or groups g []) l) (list.at []) (keeps-at groups kept g all within) in
-      let e = any-Among (λ (x : Entry). x.place == j) w.0 w.2 in
-      let sound = keeps.sound e.0 (Among-Contains w.0 e.0 e.1) in
-      let entry = are.entries g e.0 within sound.0 in
-      let place : e.0.place ≡ j = equal e.0.place e.2 in
+      let within : g < length parts = omega (arith, list.inside, length-keeps parts kept all) in
+      let keeps = subst (λ (l : List ℕ). Keeps (get_or parts g []) l) (list.at []) (keeps-at parts kept g all within) in
+      let p = any-Among (λ (x : ℕ). x == j) w.0 w.2 in
+      let sound = keeps.sound p.0 (Among-Contains w.0 p.0 p.1) in
+      let e = sound.0 in
+      let both = are.entries g e sound.1 in
+      let entry = both.0 in
+      let place : e.place ≡ j = sound.3 ∙ number_same p.0 j p.2 in
       let node : entry.node ≡ b = subst (λ (k : ℕ). entry.node ≡ get_or level k entry.node) place entry.at ∙ get_or_default level j entry.node b low ∙ sym is in
-      let mine : e.0 ≡ entry_of j b = entry.is ∙ ap (λ (k : ℕ). entry_of k entry.node) place ∙ ap (entry_of j) node in
-      let here : Contains (get_or groups g []) (entry_of j b) = subst (λ (x : Entry). Contains (get_or groups g []) x) mine sound.0 in
-      let alive : survives (get_or groups g []) (entry_of j b) ≡ true = subst (λ (x : Entry). survives (get_or groups g []) x ≡ true) mine sound.1 in
-      elim (bool_cases (is_covered level j b)) [
-        | inl covered ↦ absurd (clash alive (covered-outdone level keys groups g j b are within is here covered))
-        | inr free ↦ ap not free
-      ]
+      let same : e ≡ entry_of j b = entry.is ∙ ap (λ (k : ℕ). entry_of k entry.node) place ∙ ap (entry_of j) node in
+      let home : g ≡ part_of (key_of b.state) (length parts) = both.1 ∙ ap (λ (x : Entry). part_of x.key (length parts)) same in
+      let alive : survives (get_or parts g []) (entry_of j b) ≡ true = subst (λ (x : Entry). survives (get_or parts g []) x ≡ true) same sound.2 in
+      sym mine ∙ subst (λ (k : ℕ). survives (get_or parts k []) (entry_of j b) ≡ true) home alive
 
   from : not (is_covered level j b) ≡ true → list_any (has_place j) kept ≡ true
-  from h = elim (bool_cases (is_covered level j b)) [
-    | inl covered ↦ absurd (clash (sym (ap not covered) ∙ h) refl)
-    | inr free ↦
-        let home = are.whole j b low is in
-        let alive = outdone-covered level keys groups home.0 j b are home.1 is home.2 free in
-        let keeps = keeps-at groups kept home.0 all home.1 in
-        let k = keeps.whole (entry_of j b) home.2 alive in
-        let hit : has_place j (get_or kept home.0 []) ≡ true =
-        Among-any (λ (x : Entry). x.place == j) k.0 (get_or kept home.0 []) (Contains-Among (get_or kept home.0 []) k.0 k.1) (self k.0.place k.2) in
-        Among-any (has_place j) (get_or kept home.0 []) kept (Among-get_or kept home.0 [] (omega (arith, home.1, length-keeps groups kept all))) hit
-  ]
+  from h =
+      let g = part_of (key_of b.state) (length parts) in
+      let member = are.whole j b low is in
+      let within : g < length parts = inside_part parts g (entry_of j b) member in
+      let keeps = keeps-at parts kept g all within in
+      let place : Contains (get_or kept g []) j = keeps.whole (entry_of j b) member (mine ∙ h) in
+      let hit : has_place j (get_or kept g []) ≡ true = Among-any (λ (x : ℕ). x == j) j (get_or kept g []) (Contains-Among (get_or kept g []) j place) (same_number j j refl) in
+      Among-any (has_place j) (get_or kept g []) kept (Among-get_or kept g [] (omega (arith, within, length-keeps parts kept all))) hit
+
+-- the marked nodes are those that none covers
+pub marked-uncovered : (level : List Node) (parts : List (List Entry)) (kept : List (List ℕ)) (marks : List Bool) → AreParts level (length level) parts → KeepsAll parts kept → AreMarks (length level) kept marks →
+    marked_of marks level ≡ uncovered level
+unfolding uncovered
+marked-uncovered level parts kept marks are all set =
+    ap (map (λ (p : ℕ × Node). p.1)) (filter-same (λ (p : ℕ × Node). get_or marks p.0 false) (λ (p : ℕ × Node). not (is_covered level p.0 p.1)) (enumerate_from 0 level)
+    (λ p h. let node = Among-node level p h in mark-says level parts kept marks p.0 p.1 false are all set node.0 node.1))
 
 -- what is kept of lists that are held in vectors
-pub keeps-items : {A : Type 0} (groups kept : List (Vec Entry A)) → AllZip (λ (x y : Vec Entry A). Keeps x.items y.items) groups kept → KeepsAll (items_of groups) (items_of kept)
+pub keeps-items : {A B : Type 0} (parts : List (Vec Entry A)) (kept : List (Vec ℕ B)) → AllZip (λ (x : Vec Entry A) (y : Vec ℕ B). Keeps x.items y.items) parts kept → KeepsAll (items_of parts) (items_of kept)
 keeps-items [] [] h = h
 keeps-items [] (y ∷ kept) h = absurd h
-keeps-items (x ∷ groups) [] h = absurd h
-keeps-items (x ∷ groups) (y ∷ kept) h = (h.0, keeps-items groups kept h.1)
+keeps-items (x ∷ parts) [] h = absurd h
+keeps-items (x ∷ parts) (y ∷ kept) h = (h.0, keeps-items parts kept h.1)
 
 ok-zip : {X Y : Type 0} (E : Type 0) (R : X → Y → Type 0) (xs : List X) (ys : List Y) → AllZip (λ (x : X) (r : Result Y E). IfOk r (R x)) xs (map Ok ys) → AllZip R xs ys
 ok-zip E R [] [] h = h

@@ -1,10 +1,14 @@
--- Columns of CP, durability and quality as one list.
+-- CP, durability and quality, and columns of them as one list.
 use Rattle.std.specs.Prelude.{ℕ, Bool, true, false, List, [], ◌∷◌, ◌≡◌, ◌<◌, ◌&&◌, nat_le, length, slice_index, slice_index_or}
+use Rattle.craft_state.specs.Craft.{StateFields}
+pub use Rattle.pareto_front.specs.declared.numbers.Numbers.{Numbers}
 
-pub record Numbers : Type 0 where
-  pub cp : ℕ
-  pub durability : ℕ
-  pub quality : ℕ
+abbrev pub numbers_of : StateFields → Numbers
+numbers_of s = record { cp = s.cp; durability = s.durability; quality = s.quality }
+
+-- no number of the first is less
+unfoldable pub reaches : Numbers → Numbers → Bool
+reaches a b = nat_le b.cp a.cp && nat_le b.durability a.durability && nat_le b.quality a.quality
 
 -- the entries of three columns, place by place
 abbrev pub rows : List ℕ → List ℕ → List ℕ → List Numbers

@@ -1,3 +1,6 @@
 pub mod Columns
 pub mod Covers
-pub mod Groups
+pub mod Kept
+pub mod Keys
+pub mod Lists
+pub mod Parts

@@ -51,6 +51,15 @@ impl Columns {
         Ok(())
     }
 
+    /// Empties the list. What memory it has taken stays with it.
+    pub fn clear(&mut self)
+        ensures { self.new ≡ [] }
+    {
+        self.cp.clear();
+        self.durability.clear();
+        self.quality.clear();
+    }
+
     /// The least place whose CP, durability and quality are not less than the three numbers; None
     /// where there is none.
     pub fn cover(&self, c: [u32; 3]) -> Option<usize>

@@ -1,22 +1,27 @@
-// Nodes of a search that no other node covers.
+// Nodes of a search that no other node covers, and states that are kept where none covers them.
 #![tactic(auto)]
 
-ghost use Rattle.std.specs.Prelude.{◌≡◌, IfOk};
+ghost use Rattle.std.specs.Prelude.{◌≡◌, IfOk, length};
 ghost use Rattle.pareto_front.specs.Covers.{uncovered};
-ghost use Rattle.pareto_front.specs.Groups.{AreMarked, AreMarks, items_of};
+ghost use Rattle.pareto_front.specs.Lists.{items_of};
+ghost use Rattle.pareto_front.specs.Parts.{AreMarked, AreMarks, marked_of};
 
 mod columns;
-mod groups;
+mod kept;
+mod key;
 pub mod laws;
 mod node;
+mod numbers;
+mod parts;
 mod sweep;
 #[cfg(test)]
 mod tests;
 
 use action_table::WantMemory;
 pub use columns::Columns;
-use groups::{Entry, group};
+pub use kept::Kept;
 pub use node::Node;
+use parts::divide;
 use std::alloc::Global;
 use std::thread::Threads;
 use sweep::keep_all;
@@ -31,36 +36,48 @@ pub fn prune<R: Threads + Sync>(
 ) -> Result<Vec<Node>, WantMemory>
     ensures { IfOk result (λ kept. kept.items ≡ uncovered level.items) }
 {
-    let groups = group(alloc, &level)?;
-    let kept = keep_all(rt, alloc, &groups)??;
+    let parts = divide(alloc, &level)?;
+    let kept = keep_all(rt, alloc, parts)??;
     let marks = marks_of(alloc, level.len(), &kept)?;
-    let mut left = Vec::new(alloc);
-    for (place, node) in level.iter().enumerate() {
-        if marks[place] {
-            left.push(*node)?;
-        }
-    }
+    let mut left = level;
+    keep_marked(&mut left, &marks);
     Ok(left)
 }
 
-// For each place, whether an entry with it is kept.
-fn marks_of(alloc: Global, count: usize, kept: &[Vec<Entry>]) -> Result<Vec<bool>, WantMemory>
+// For each place, whether it is among those that are kept.
+fn marks_of(alloc: Global, count: usize, kept: &[Vec<usize>]) -> Result<Vec<bool>, WantMemory>
     ensures { IfOk result (λ marks. AreMarks count (items_of kept.now) marks.items) }
 {
     let mut marks = vec![in alloc; false; count]?;
-    for entries in kept {
-        mark(&mut marks, entries);
+    for places in kept {
+        mark(&mut marks, places);
     }
     Ok(marks)
 }
 
-// Marks the places of entries.
-fn mark(marks: &mut [bool], entries: &[Entry])
-    ensures { AreMarked entries.now marks.old marks.new }
+// Marks places.
+fn mark(marks: &mut [bool], places: &[usize])
+    ensures { AreMarked places.now marks.old marks.new }
 {
-    for entry in entries {
-        if entry.place < marks.len() {
-            marks[entry.place] = true;
+    for place in places {
+        if *place < marks.len() {
+            marks[*place] = true;
         }
     }
+}
+
+// Leaves the nodes that are marked, and gives the rest of the memory back.
+fn keep_marked(level: &mut Vec<Node>, marks: &[bool])
+    requires { length marks.now ≡ length level.old.items }
+    ensures { level.new.items ≡ marked_of marks.now level.old.items }
+{
+    let mut count = 0;
+    for place in 0..level.len() {
+        if marks[place] {
+            level[count] = level[place];
+            count += 1;
+        }
+    }
+    level.truncate(count);
+    level.shrink_to_fit();
 }

@@ -1,101 +1,79 @@
-ghost use Rattle.std.specs.Prelude.{◌≡◌, IfOk, OnOk};
-ghost use Rattle.std.specs.List.{AllZip, list_any};
-ghost use Rattle.pareto_front.specs.Groups.{Keeps, Tries, outdoes};
+ghost use Rattle.std.specs.Prelude.{◌≡◌, ◌<◌, ◌==◌, [], IfOk, OnOk, if◌then◌else◌};
+ghost use Rattle.std.specs.List.{AllZip};
+ghost use Rattle.pareto_front.specs.Parts.{AreSorted, Keeps, Tries};
 
 use crate::columns::Columns;
-use crate::groups::Entry;
+use crate::parts::Entry;
 use action_table::WantMemory;
 use rayon::prelude::*;
 use std::alloc::{AllocError, Global};
 use std::thread::Threads;
 
-// Up to how many entries a group is compared pair by pair.
-const SMALL_GROUP: usize = 12;
-
-/// What is kept of each group, from as many threads as there are processors.
+/// The places of what is kept of each part, from as many threads as there are processors.
 pub fn keep_all(
     rt: &(impl Threads + Sync),
     alloc: Global,
-    groups: &[Vec<Entry>],
-) -> Result<Result<Vec<Vec<Entry>>, WantMemory>, AllocError>
-    ensures { IfOk result (λ kept. IfOk kept (λ v. AllZip (λ group k. Keeps group.items k.items) groups.now v.items)) }
+    parts: Vec<Vec<Entry>>,
+) -> Result<Result<Vec<Vec<usize>>, WantMemory>, AllocError>
+    ensures { IfOk result (λ kept. IfOk kept (λ v. AllZip (λ part k. Keeps part.items k.items) parts.items v.items)) }
 {
-    groups
-        .par_iter()
+    parts
+        .into_par_iter()
+        .with_min_len(1)
         .map(
-            |group: &Vec<Entry>| -> Result<Vec<Entry>, WantMemory>
-                ensures { IfOk result (λ kept. Keeps group.now.items kept.items) }
-            { keep(alloc, group) },
+            |part: Vec<Entry>| -> Result<Vec<usize>, WantMemory>
+                ensures { IfOk result (λ kept. Keeps part.items kept.items) }
+            { keep(alloc, part) },
         )
         .collect(rt, alloc)
 }
 
-// The entries of a group that no other outdoes.
-fn keep(alloc: Global, group: &[Entry]) -> Result<Vec<Entry>, WantMemory>
-    ensures { IfOk result (λ kept. Keeps group.now kept.items) }
+// The places of the entries of a part that no other outdoes.
+fn keep(alloc: Global, part: Vec<Entry>) -> Result<Vec<usize>, WantMemory>
+    ensures { IfOk result (λ kept. Keeps part.items kept.items) }
 {
-    if group.len() <= SMALL_GROUP {
-        keep_by_pairs(alloc, group)
-    } else {
-        keep_by_columns(alloc, group)
-    }
+    let mut sorted = part;
+    sorted.sort_unstable_by_key(|entry| (entry.key, entry.seconds, entry.place));
+    keep_sorted(alloc, &sorted)
 }
 
-// The same, by comparing all pairs.
-fn keep_by_pairs(alloc: Global, group: &[Entry]) -> Result<Vec<Entry>, WantMemory>
-    ensures { IfOk result (λ kept. Keeps group.now kept.items) }
+// The same of a sorted part, with the numbers that are kept of the latest key in columns.
+fn keep_sorted(alloc: Global, sorted: &[Entry]) -> Result<Vec<usize>, WantMemory>
+    requires { AreSorted sorted.now }
+    ensures { IfOk result (λ kept. Keeps sorted.now kept.items) }
 {
-    let mut kept = Vec::new(alloc);
-    for entry in group {
-        if !is_outdone(group, entry) {
-            kept.push(*entry)?;
-        }
-    }
-    Ok(kept)
-}
-
-// Whether some entry of the group outdoes this one.
-fn is_outdone(group: &[Entry], entry: &Entry) -> bool
-    ensures { result ≡ list_any (λ o. outdoes o entry.now) group.now }
-{
-    group.iter().any(|other| outdoes(other, entry))
-}
-
-// The same, in the order of seconds, then place, with the entries kept so far in columns.
-fn keep_by_columns(alloc: Global, group: &[Entry]) -> Result<Vec<Entry>, WantMemory>
-    ensures { IfOk result (λ kept. Keeps group.now kept.items) }
-{
-    let mut sorted = group.to_vec(alloc)?;
-    sorted.sort_unstable_by_key(|entry| (entry.seconds, entry.place));
+    let mut key = 0;
     let mut columns = Columns::new(alloc);
     let mut kept = Vec::new(alloc);
-    for entry in &sorted {
+    for entry in sorted {
+        key = turn_to(entry.key, key, &mut columns);
         try_entry(*entry, &mut columns, &mut kept)?;
     }
     Ok(kept)
 }
 
+// Empties the columns where another key comes.
+fn turn_to(key: u64, last: u64, columns: &mut Columns) -> u64
+    ensures key { result ≡ key }
+    ensures columns { columns.new ≡ (if key == last then columns.old else []) }
+{
+    if key != last {
+        columns.clear();
+    }
+    key
+}
+
 // Keeps an entry unless the numbers of a kept one are not less.
-fn try_entry(entry: Entry, columns: &mut Columns, kept: &mut Vec<Entry>) -> Result<(), WantMemory>
+fn try_entry(entry: Entry, columns: &mut Columns, kept: &mut Vec<usize>) -> Result<(), WantMemory>
     ensures { OnOk result (Tries entry columns.old kept.old.items columns.new kept.new.items) }
 {
-    match columns.cover([entry.cp, entry.durability, entry.quality]) {
+    let numbers = entry.numbers;
+    match columns.cover([numbers.cp, numbers.durability, numbers.quality]) {
         None => {
-            columns.push(entry.cp, entry.durability, entry.quality)?;
-            kept.push(entry)?;
+            columns.push(numbers.cp, numbers.durability, numbers.quality)?;
+            kept.push(entry.place)?;
         }
         Some(_) => {}
     }
     Ok(())
-}
-
-// Whether the first entry outdoes the second.
-#[tactic(auto, unfolding(crate::specs::Groups::outdoes))]
-fn outdoes(a: &Entry, b: &Entry) -> bool
-    ensures { result ≡ outdoes a.now b.now }
-{
-    a.cp >= b.cp
-        && a.durability >= b.durability
-        && a.quality >= b.quality
-        && (a.seconds < b.seconds || (a.seconds == b.seconds && a.place < b.place))
 }

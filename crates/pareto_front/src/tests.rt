@@ -143,3 +143,106 @@ fn prunes_as_the_plain_comparison(rt: HostRuntime) -> Result<(), Fail> {
     }
     Ok(())
 }
+
+// A state with these numbers, and progress and effects that few states share.
+fn offered(cp: u32, durability: u32, quality: u32, progress: u32, iq: u32) -> State
+    requires cp { cp ≤ 1000 }
+    requires durability { durability ≤ 20 }
+    requires quality { quality ≤ 100000 }
+    requires progress { progress ≤ 100000 }
+    requires iq { iq ≤ 10 }
+{
+    let mut effects = EFFECTS;
+    effects.iq = iq;
+    State {
+        cp,
+        durability: durability * 5,
+        progress,
+        quality,
+        effects,
+    }
+}
+
+#[test]
+fn keeps_what_nothing_covers(rt: HostRuntime) -> Result<(), Fail> {
+    let mut kept = Kept::new(rt.alloc());
+    let offers = [
+        (offered(10, 4, 5, 30, 0), true),
+        (offered(10, 4, 5, 30, 0), false),
+        (offered(5, 4, 5, 30, 0), false),
+        (offered(5, 4, 6, 30, 0), true),
+        (offered(10, 5, 5, 30, 0), true),
+        (offered(5, 4, 5, 30, 1), true),
+        (offered(5, 4, 5, 31, 0), true),
+        (offered(0, 0, 0, 30, 1), false),
+    ];
+    for (s, fresh) in &offers {
+        assert_eq!(rt; kept.offer(s).ok(), Some(*fresh));
+    }
+    assert_eq!(rt; kept.len(), 5);
+    assert_eq!(rt; kept.at(1).quality, 6);
+    assert_eq!(rt; kept.at(3).effects.iq, 1);
+    Ok(())
+}
+
+// Whether some state covers another, by comparing it with each.
+fn is_in_shadow(states: &[State], s: &State) -> bool {
+    states.iter().any(|k| {
+        k.progress == s.progress
+            && k.effects == s.effects
+            && k.cp >= s.cp
+            && k.durability >= s.durability
+            && k.quality >= s.quality
+    })
+}
+
+#[test]
+fn keeps_as_the_plain_list(rt: HostRuntime) -> Result<(), Fail> {
+    let mut kept = Kept::new(rt.alloc());
+    let mut plain: Vec<State> = Vec::new(rt.alloc());
+    for seed in [1, 99, 2026] {
+        for node in &drawn(rt.alloc(), seed)? {
+            let fresh = !is_in_shadow(&plain, &node.state);
+            assert_eq!(rt; kept.offer(&node.state).ok(), Some(fresh));
+            if fresh {
+                plain.push(node.state)?;
+            }
+        }
+    }
+    assert_eq!(rt; kept.len(), plain.len());
+    assert!(rt; plain.len() < 900);
+    for (place, s) in plain.iter().enumerate() {
+        if place < kept.len() {
+            assert_eq!(rt; kept.at(place), *s);
+        }
+    }
+    Ok(())
+}
+
+#[test]
+fn prunes_a_level_in_parts(rt: HostRuntime) -> Result<(), Fail> {
+    let pattern = drawn(rt.alloc(), 7)?;
+    let mut expected = Vec::new(rt.alloc());
+    for (place, node) in pattern.iter().enumerate() {
+        if !is_covered(&pattern, place) {
+            expected.push(node.parent)?;
+        }
+    }
+    let mut level = Vec::new(rt.alloc());
+    for block in 0..120u32 {
+        for node in &pattern {
+            let mut next = *node;
+            next.state.progress = (node.state.progress & 1) + 2 * block;
+            level.push(next)?;
+        }
+    }
+    let kept = prune(&rt, rt.alloc(), level).ok().ok_or("want of memory")?;
+    let count = expected.len();
+    assert_ne!(rt; count, 0);
+    assert_eq!(rt; kept.len() / count, 120);
+    assert_eq!(rt; kept.len() % count, 0);
+    for (place, node) in kept.iter().enumerate() {
+        assert_eq!(rt; node.parent, expected[place % count]);
+    }
+    Ok(())
+}

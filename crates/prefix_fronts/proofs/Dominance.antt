@@ -24,7 +24,7 @@ and_both false y h = cc
 pub and_by : (x y : Bool) → x ≡ true → y ≡ true → (x && y) ≡ true
 and_by x y h k = rw (h, k) refl
 
-combo_same : (a b : Combo) → combo_number a ≡ combo_number b → a ≡ b
+pub combo_same : (a b : Combo) → combo_number a ≡ combo_number b → a ≡ b
 combo_same NoCombo NoCombo h = refl
 combo_same NoCombo Basic h = absurd (omega arith)
 combo_same NoCombo Standard h = absurd (omega arith)
@@ -35,7 +35,7 @@ combo_same Standard NoCombo h = absurd (omega arith)
 combo_same Standard Basic h = absurd (omega arith)
 combo_same Standard Standard h = refl
 
-perfection_same : (a b : Perfection) → perfection_number a ≡ perfection_number b → a ≡ b
+pub perfection_same : (a b : Perfection) → perfection_number a ≡ perfection_number b → a ≡ b
 perfection_same Ready Ready h = refl
 perfection_same Ready On h = absurd (omega arith)
 perfection_same Ready Spent h = absurd (omega arith)
