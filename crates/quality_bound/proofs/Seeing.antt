@@ -1,12 +1,13 @@
 -- What a seat sees of a budget, column by column.
-use Rattle.std.proofs.Common.{◌≡◌, ◌⊎◌, inl, inr, ℕ, ◌+◌, ◌-◌, ◌/◌, ◌%◌, ◌==◌, ◌<◌, ◌≤◌, Contains, sym, ap, ◌∙◌, subst, arith}
+use Rattle.std.proofs.Common.{◌≡◌, ◌⊎◌, inl, inr, ℕ, ◌+◌, ◌/◌, ◌%◌, ◌==◌, ◌<◌, Contains, sym, ap, ◌∙◌, subst, arith}
 use Rattle.race_core.specs.declared.view.View.{View}
 use Rattle.seat_tables.specs.Seats.{StillSees}
+use Rattle.relaxed_moves.specs.Columns.{at_bucket}
 use Rattle.relaxed_moves.specs.Moves.{RelaxedFields}
-use Rattle.relaxed_moves.specs.Places.{bucket_states, first_at, state_at, index_of}
+use Rattle.relaxed_moves.specs.Places.{bucket_states, state_at, index_of}
 use Rattle.relaxed_moves.proofs.Indices.{index_of-at, bucket-state_at}
 use Rattle.table_bound.specs.Bounds.{BoundRules}
-use Rattle.table_bound.specs.Columns.{at_bucket, SeesBuckets}
+use Rattle.table_bound.specs.Columns.{SeesBuckets}
 use Rattle.quality_bound.specs.Seen.{SeesEffects}
 
 -- places with one effects number differ in the bucket alone

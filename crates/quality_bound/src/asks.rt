@@ -5,10 +5,11 @@ ghost use Rattle.step_rules.specs.Legality.{IsWithin};
 ghost use Rattle.relaxed_moves.specs.Budget.{potential_of, start_potential_of};
 ghost use Rattle.relaxed_moves.specs.Optimum.{opt, limit_of};
 ghost use Rattle.relaxed_moves.specs.Places.{index_of};
+ghost use Rattle.relaxed_moves.specs.Scales.{IsScale};
 
 use crate::truth::QualityTruth;
 use craft_state::State;
-use relaxed_moves::{Relaxed, potential};
+use relaxed_moves::{Relaxed, Scale, potential_by};
 use seat_tables::{Seat, Shared};
 use table_bound::limit_within;
 
@@ -44,5 +45,25 @@ pub fn limit(shared: &Shared<QualityTruth>, seat: &mut Seat<QualityTruth>, s: &S
     ensures still { StillSees seat.old.view seat.new.view }
 {
     let truth = shared.truth();
-    limit_within(shared, seat, potential(&truth.g, s), s)
+    limit_by(shared, seat, &Scale::new(&truth.g, truth.grain), s)
+}
+
+/// The limit of a state, by the scale of the table's craft and grain, which a search makes once.
+pub fn limit_by(
+    shared: &Shared<QualityTruth>,
+    seat: &mut Seat<QualityTruth>,
+    scale: &Scale,
+    s: &State,
+) -> Option<u32>
+    requires of { IsOf shared.now seat.old }
+    requires scale { IsScale shared.now.truth.g shared.now.truth.grain scale.now }
+    requires within { IsWithin shared.now.truth.g s.now }
+    requires potential { potential_of shared.now.truth.g s.now ≤ start_potential_of shared.now.truth.g }
+    ensures of { IsOf shared.now seat.new }
+    ensures value { result ≡ limit_of shared.now.truth.g shared.now.truth.grain s.now }
+    ensures still { StillSees seat.old.view seat.new.view }
+{
+    let truth = shared.truth();
+    let means = potential_by(&truth.g, &scale.weights, s);
+    limit_within(shared, seat, scale, means, s)
 }

@@ -3,9 +3,9 @@ ghost use Rattle.std.specs.Prelude.{◌≡◌, ℕ, ◌+◌, ◌<◌, ◌≤◌,
 ghost use Rattle.seat_tables.specs.Seats.{IsOf, StillSees, SeatFields};
 ghost use Rattle.worker_gate.specs.Cut.{cut};
 ghost use Rattle.relaxed_moves.specs.Budget.{start_potential_of};
+ghost use Rattle.relaxed_moves.specs.Columns.{coded, at_bucket};
 ghost use Rattle.relaxed_moves.specs.Optimum.{opt};
 ghost use Rattle.relaxed_moves.specs.Places.{bucket_states, state_at};
-ghost use Rattle.table_bound.specs.Columns.{coded, at_bucket};
 ghost use Rattle.quality_bound.specs.declared.truth.QualityTruth.{QualityTruth};
 ghost use Rattle.quality_bound.specs.Seen.{SeesEffects};
 

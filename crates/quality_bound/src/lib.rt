@@ -7,6 +7,6 @@ mod fills;
 mod tests;
 mod truth;
 
-pub use asks::{ask, limit};
+pub use asks::{ask, limit, limit_by};
 pub use fills::{fill_budget, fill_column};
 pub use truth::QualityTruth;

@@ -1,12 +1,14 @@
-ghost use Rattle.std.specs.Prelude.{◌≡◌};
+ghost use Rattle.std.specs.Prelude.{◌≡◌, ◌≤◌, IfSome};
 ghost use Rattle.seat_tables.specs.Seats.{IsOf};
+ghost use Rattle.step_rules.specs.Macro.{IsReached};
 
 use crate::{QualityTruth, ask, fill_budget, fill_column, limit};
-use action_table::Action;
+use action_table::{Action, WantMemory};
 use craft_settings::Settings;
 use race_core::Entry;
-use relaxed_moves::{of_index, potential, start_potential};
+use relaxed_moves::{at_bucket, of_index, potential, start_potential};
 use seat_tables::{Seat, Shared};
+use std::alloc::Global;
 use std::test::Fail;
 use step_rules::{replay, start};
 use worker_gate::FreeGate;
@@ -33,6 +35,57 @@ fn first_touch() -> QualityTruth
         g: FIRST_TOUCH,
         grain: 16,
     }
+}
+
+// Index 7 is budget 0, bucket 0, veneration 1, strides and muscle; index 1100 is budget 0, bucket 1.
+#[test]
+fn a_put_word_stays(rt: HostRuntime) -> Result<(), Fail> {
+    let (table, mut a) = Shared::new(rt.alloc(), first_touch())?;
+    let mut b = table.split(&mut a);
+    assert_eq!(rt; table.load(&mut b, 7), None);
+    table.put(&mut a, 7, Entry::Best(0));
+    assert_eq!(rt; table.load(&mut b, 7), Some(Entry::Best(0)));
+    table.join(&mut a, b);
+    assert_eq!(rt; table.load(&mut a, 7), Some(Entry::Best(0)));
+    table.put(&mut a, 7, Entry::Best(0));
+    assert_eq!(rt; ask(&table, &mut a, 0, &of_index(16, 1100).1), None);
+    let closed = table.close(a);
+    assert_eq!(rt; closed.word(8), 2);
+    assert_eq!(rt; closed.word(1101), 1);
+    Ok(())
+}
+
+// The quality of a macro that completes the craft.
+fn reached(g: &Settings, actions: &[Action]) -> Option<u32>
+    ensures { IfSome result (λ quality. IsReached g.now quality) }
+{
+    let Ok(last) = replay(g, &start(g), actions) else {
+        return None;
+    };
+    if last.progress != g.progress {
+        return None;
+    }
+    Some(g.cap().min(last.quality))
+}
+
+#[test]
+fn the_mark_never_falls(rt: HostRuntime) -> Result<(), Fail> {
+    let (table, mut a) = Shared::new(rt.alloc(), first_touch())?;
+    let g = table.truth().g;
+    let mut b = table.split(&mut a);
+    assert_eq!(rt; table.see(&mut a), None);
+    let touched = [Action::BasicTouch, Action::BasicSynthesis];
+    if let Some(quality) = reached(&g, &touched) {
+        table.offer(&mut a, quality);
+    }
+    assert_eq!(rt; table.see(&mut a), Some(100));
+    assert_eq!(rt; table.see(&mut b), Some(100));
+    if let Some(quality) = reached(&g, &[Action::BasicSynthesis]) {
+        assert_eq!(rt; quality, 0);
+        table.offer(&mut a, quality);
+    }
+    assert_eq!(rt; table.see(&mut a), Some(100));
+    Ok(())
 }
 
 // The column of a budget with no effects, where the table has this budget.
@@ -135,5 +188,209 @@ fn two_seats_fill_a_budget(rt: HostRuntime) -> Result<(), Fail> {
     assert_eq!(rt; closed.word(550), 2);
     assert_eq!(rt; closed.word(551), 2);
     assert_eq!(rt; closed.word(18700), 1);
+    Ok(())
+}
+
+const CRAFT_14: Settings = Settings {
+    level: 14,
+    cp: 115,
+    durability: 50,
+    progress: 55,
+    quality: 574,
+    initial: 125,
+    base_progress: 191,
+    base_quality: 287,
+    forbidden: 33554432,
+    target: 527,
+    backload: false,
+};
+
+const CRAFT_87: Settings = Settings {
+    level: 87,
+    cp: 38,
+    durability: 20,
+    progress: 48,
+    quality: 680,
+    initial: 0,
+    base_progress: 72,
+    base_quality: 125,
+    forbidden: 41942974,
+    target: 631,
+    backload: false,
+};
+
+const CRAFT_73: Settings = Settings {
+    level: 73,
+    cp: 92,
+    durability: 20,
+    progress: 469,
+    quality: 1031,
+    initial: 0,
+    base_progress: 153,
+    base_quality: 85,
+    forbidden: 49807188,
+    target: 1031,
+    backload: true,
+};
+
+const CRAFT_96: Settings = Settings {
+    level: 96,
+    cp: 26,
+    durability: 30,
+    progress: 175,
+    quality: 44,
+    initial: 0,
+    base_progress: 165,
+    base_quality: 44,
+    forbidden: 0,
+    target: 44,
+    backload: false,
+};
+
+const CRAFT_80: Settings = Settings {
+    level: 80,
+    cp: 119,
+    durability: 65,
+    progress: 164,
+    quality: 116,
+    initial: 0,
+    base_progress: 164,
+    base_quality: 116,
+    forbidden: 67042814,
+    target: 116,
+    backload: true,
+};
+
+const CRAFT_99: Settings = Settings {
+    level: 99,
+    cp: 110,
+    durability: 65,
+    progress: 334,
+    quality: 2250,
+    initial: 0,
+    base_progress: 167,
+    base_quality: 242,
+    forbidden: 25017782,
+    target: 2250,
+    backload: true,
+};
+
+// Whether a word of the table says this: the budget, the effects number, the bucket and the optimum.
+fn says(
+    table: &Shared<QualityTruth>,
+    seat: &mut Seat<QualityTruth>,
+    word: &(u32, usize, u32, Option<u32>),
+) -> bool
+    requires { IsOf table.now seat.old }
+    ensures { IsOf table.now seat.new }
+{
+    let (first, effects, bucket, most) = *word;
+    let truth = table.truth();
+    if effects >= 1100 || bucket > truth.grain || first > start_potential(&truth.g) {
+        return false;
+    }
+    let (_, x) = of_index(truth.grain, effects);
+    ask(table, seat, first, &at_bucket(&x, bucket)) == most
+}
+
+// Whether it says this of all of these words.
+fn says_all(
+    table: &Shared<QualityTruth>,
+    seat: &mut Seat<QualityTruth>,
+    words: &[(u32, usize, u32, Option<u32>)],
+) -> bool
+    requires { IsOf table.now seat.old }
+{
+    for word in words {
+        if !says(table, seat, word) {
+            return false;
+        }
+    }
+    true
+}
+
+// Whether a craft's table says all of these words.
+fn told(
+    alloc: Global,
+    g: &Settings,
+    grain: u32,
+    words: &[(u32, usize, u32, Option<u32>)],
+) -> Result<bool, WantMemory>
+    requires low { 1 ≤ grain }
+    requires high { grain ≤ 64 }
+{
+    let (table, mut seat) = Shared::new(alloc, QualityTruth::new(g, grain))?;
+    Ok(says_all(&table, &mut seat, words))
+}
+
+#[test]
+fn drawn_words(rt: HostRuntime) -> Result<(), Fail> {
+    let alloc = rt.alloc();
+    let words = [
+        (130, 247, 2, Some(1420)),
+        (109, 639, 7, Some(1148)),
+        (26, 450, 6, None),
+        (182, 1009, 1, Some(1722)),
+        (197, 76, 7, Some(1419)),
+        (23, 117, 4, None),
+        (239, 394, 2, Some(2867)),
+        (110, 554, 8, Some(1076)),
+    ];
+    assert!(rt; told(alloc, &CRAFT_14, 8, &words)?);
+    let words = [
+        (8, 370, 1, None),
+        (14, 1080, 0, Some(0)),
+        (79, 604, 0, Some(250)),
+        (12, 371, 0, Some(0)),
+        (55, 305, 1, Some(0)),
+        (46, 953, 0, Some(445)),
+        (6, 811, 1, None),
+        (89, 318, 0, Some(406)),
+    ];
+    assert!(rt; told(alloc, &CRAFT_87, 1, &words)?);
+    let words = [
+        (108, 322, 4, Some(276)),
+        (159, 733, 3, Some(522)),
+        (51, 152, 12, None),
+        (67, 762, 3, Some(0)),
+        (54, 767, 12, Some(0)),
+        (2, 210, 3, None),
+        (81, 868, 2, Some(229)),
+        (107, 678, 9, Some(340)),
+    ];
+    assert!(rt; told(alloc, &CRAFT_73, 12, &words)?);
+    let words = [
+        (114, 532, 4, Some(302)),
+        (49, 439, 5, Some(0)),
+        (56, 1014, 0, Some(528)),
+        (85, 643, 3, Some(387)),
+        (81, 119, 1, Some(145)),
+        (34, 231, 5, Some(0)),
+        (78, 710, 2, Some(359)),
+        (122, 87, 5, Some(273)),
+    ];
+    assert!(rt; told(alloc, &CRAFT_96, 6, &words)?);
+    let words = [
+        (12, 927, 6, None),
+        (148, 446, 9, Some(812)),
+        (272, 1070, 5, Some(2552)),
+        (1, 977, 2, None),
+        (146, 937, 2, Some(661)),
+        (185, 98, 4, Some(580)),
+        (147, 775, 6, Some(986)),
+        (99, 555, 8, Some(0)),
+    ];
+    assert!(rt; told(alloc, &CRAFT_80, 9, &words)?);
+    let words = [
+        (126, 527, 0, Some(2132)),
+        (140, 23, 7, Some(1451)),
+        (86, 822, 8, Some(1361)),
+        (226, 44, 1, Some(2257)),
+        (178, 253, 8, Some(2009)),
+        (127, 680, 2, Some(2313)),
+        (168, 917, 4, Some(2389)),
+        (191, 283, 6, Some(2817)),
+    ];
+    assert!(rt; told(alloc, &CRAFT_99, 8, &words)?);
     Ok(())
 }

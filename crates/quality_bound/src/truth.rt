@@ -1,11 +1,11 @@
 // What the words of the quality table say.
-ghost use Rattle.std.specs.Prelude.{◌≤◌};
+ghost use Rattle.std.specs.Prelude.{◌≡◌, ◌≤◌};
 ghost use Rattle.craft_settings.specs.Ranges.{AreSettings, IsFromTo};
 
 use action_table::Action;
 use craft_settings::Settings;
 use race_core::Truth;
-use relaxed_moves::{move_cost, quality_size};
+use relaxed_moves::{Scale, move_cost_by, quality_size};
 use table_bound::Bound;
 
 /// The quality table of a craft: the entry of an index is the budget optimum of the budget and the relaxed state that
@@ -16,6 +16,18 @@ pub struct QualityTruth {
     pub grain: u32,
     pub ghost settings: { AreSettings g },
     pub ghost grain_range: { IsFromTo 1 64 grain },
+}
+
+impl QualityTruth {
+    /// The truth of a craft and a grain from 1 to 64.
+    pub fn new(g: &Settings, grain: u32) -> QualityTruth
+        requires { IsFromTo 1 64 grain }
+        ensures g { result.g ≡ g.now }
+        ensures grain { result.grain ≡ grain }
+    {
+        let _level = g.level;
+        QualityTruth { g: *g, grain }
+    }
 }
 
 impl Truth for QualityTruth {
@@ -55,8 +67,8 @@ impl Bound for QualityTruth {
         self.grain
     }
 
-    fn price(&self, action: Action) -> u32 {
-        move_cost(&self.g, action)
+    fn price(&self, scale: &Scale, action: Action) -> u32 {
+        move_cost_by(&self.g, &scale.weights, action)
     }
 
     ghost rules_hold = { λ t. are_quality_rules t.g t.grain t.settings t.grain_range };

@@ -5,13 +5,9 @@ use Rattle.std.proofs.lemmas.Nat.{div-add-mod', le-div, div_below, mod_below}
 use Rattle.action_table.specs.declared.action.Action.{Action}
 use Rattle.action_table.specs.declared.action.Action.TheVariants.{BasicSynthesis}
 use Rattle.craft_settings.specs.Ranges.{SettingsFields}
+use Rattle.relaxed_moves.specs.Columns.{coded, at_bucket}
 use Rattle.relaxed_moves.specs.Moves.{RelaxedFields, is_move_of, move_gain_of, move_progress, move_on_of, unit_of}
 use Rattle.relaxed_moves.specs.Optimum.{option_max}
-
--- an optimum in a row: 0 for none, else one more
-abbrev pub coded : Option ℕ → ℕ
-coded None = 0
-coded (Some most) = 1 + most
 
 pub coded-max : (a b : Option ℕ) → coded (option_max a b) ≡ max (coded a) (coded b)
 coded-max None b = omega arith
@@ -70,10 +66,6 @@ bucket-shift b u gain positive =
     let high : (b * u - gain) / u < b - (gain + u - 1) / u + 1 = div_below (b * u - gain) u (b - (gain + u - 1) / u + 1) positive (below_shift b u gain ((gain + u - 1) / u) positive (omega arith)) in
     let low : b - (gain + u - 1) / u ≤ (b * u - gain) / u = le-div (b - (gain + u - 1) / u) (b * u - gain) u positive (above_shift b u gain ((gain + u - 1) / u) (omega arith)) in
     omega arith
-
--- the relaxed state of a bucket, with the effects of another
-abbrev pub at_bucket : RelaxedFields → ℕ → RelaxedFields
-at_bucket x b = record x { bucket = b }
 
 -- a move takes a whole column of buckets to another column, shifted
 pub move_on-column : (g : SettingsFields) (grain b : ℕ) (x : RelaxedFields) (a : Action) → 0 < unit_of g grain →

@@ -1,8 +1,10 @@
 -- The ranges of the weights and of the costs.
-use Rattle.std.proofs.Common.{ℕ, Bool, true, false, ◌≡◌, ◌≤◌, ◌<◌, ◌+◌, ◌-◌, ◌*◌, ◌/◌, arith, if◌then◌else◌}
-use Rattle.std.proofs.lemmas.Nat.{le-div, mul-le}
+use Rattle.std.proofs.Common.{ℕ, Bool, true, false, ◌≡◌, ◌≤◌, ◌<◌, ◌+◌, ◌-◌, ◌*◌, ◌/◌, arith, if◌then◌else◌, ap, ◌∙◌}
+use Rattle.std.proofs.lemmas.Nat.{le-div, mul-le, div_below}
+use Rattle.std.proofs.Math.Nat.{mul-le-mul_left, mul-div_cancel}
 use Rattle.action_table.specs.declared.action.Action.{Action}
 use Rattle.action_table.specs.declared.action.Action.TheVariants.{BasicSynthesis, Groundwork, TrainedPerfection}
+use Rattle.craft_numbers.specs.Gains.{progress_gain_of}
 use Rattle.craft_settings.specs.Ranges.{SettingsFields, AreSettings}
 use Rattle.craft_settings.specs.Rules.{is_allowed}
 use Rattle.relaxed_moves.specs.Budget.{rho_of, sigma_of, slack_of, cost_of, start_potential_of}
@@ -28,6 +30,22 @@ sigma_high g = grind arith
 pub unit_positive : (g : SettingsFields) (grain : ℕ) → AreSettings g → 1 ≤ grain → 0 < unit_of g grain
 unfolding unit_of
 unit_positive g grain settings low = le-div 1 (g.progress + grain - 1) grain (omega arith) (omega (arith, settings.progress.low))
+
+pub unit_high : (g : SettingsFields) (grain : ℕ) → AreSettings g → 1 ≤ grain → unit_of g grain ≤ g.progress
+unfolding unit_of
+unit_high g grain settings low =
+    let more : g.progress * 1 ≤ g.progress * grain = mul-le-mul_left g.progress low in
+    let below : (g.progress + grain - 1) / grain < g.progress + 1 = div_below (g.progress + grain - 1) grain (g.progress + 1) (omega (arith, low)) (omega (arith, more, low)) in
+    omega (arith, below)
+
+whole : (b u : ℕ) → 0 < u → (b * u - 0) / u ≡ b
+whole b u positive = ap (λ (n : ℕ). n / u) (let same : b * u - 0 ≡ b * u = omega arith in same) ∙ mul-div_cancel b positive
+
+-- no progress leaves every bucket as it is
+pub stays : (base b u : ℕ) (v m : Bool) → 0 < u → (b * u - progress_gain_of base 0 v m) / u ≡ b
+stays base b u v m positive =
+    let none : progress_gain_of base 0 v m ≡ 0 = omega arith in
+    ap (λ n. (b * u - n) / u) none ∙ whole b u positive
 
 cost_by : (g : SettingsFields) (a : Action) → 5 ≤ rho_of g → 12 ≤ sigma_of g → is_listed g a ≡ true → 10 ≤ cost_of g a
 unfolding cost_of
@@ -57,9 +75,11 @@ if_high : (b : Bool) (rho : ℕ) → rho ≤ 14 → (if b then 3 * rho else rho)
 if_high true rho h = omega arith
 if_high false rho h = omega arith
 
-slack_high : (g : SettingsFields) → slack_of g ≤ 42
+pub slack_high : (g : SettingsFields) → slack_of g ≤ 42
 unfolding slack_of
 slack_high g = if_high (is_allowed g Groundwork) (rho_of g) (rho_high g)
+
+pub ruleset small_weights = (rho_high, sigma_high, slack_high)
 
 -- no potential is above 1378
 pub start_small : (g : SettingsFields) → AreSettings g → start_potential_of g ≤ 1378

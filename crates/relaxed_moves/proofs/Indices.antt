@@ -1,8 +1,9 @@
 -- Different relaxed states have different places.
 use Rattle.std.proofs.Common.{ℕ, Bool, true, false, ◌≡◌, ◌≤◌, ◌<◌, ◌+◌, ◌*◌, ◌/◌, ◌%◌, ◌==◌, sym, refl, arith}
 use Rattle.std.proofs.lemmas.Nat.{same_from_place, div_below, mod_below, div-add-mod', mul-le}
+use Rattle.relaxed_moves.specs.Columns.{at_bucket}
 use Rattle.relaxed_moves.specs.Moves.{RelaxedFields, AreRelaxed}
-use Rattle.relaxed_moves.specs.Places.{bucket_states, bit, effect_number, index_of, first_at, state_at}
+use Rattle.relaxed_moves.specs.Places.{bucket_states, place_count, bit, effect_number, index_of, first_at, state_at}
 
 bit-injective : (a b : Bool) → bit a ≡ bit b → a ≡ b
 bit-injective true true h = refl
@@ -78,3 +79,24 @@ index_of-layers grain first x = omega arith
 pub effect_number-below : (x : RelaxedFields) → AreRelaxed x → effect_number x < bucket_states
 effect_number-below x bounds =
     omega (arith, bounds.iq, bounds.innovation, bounds.veneration, bit_small x.strides, bit_small x.muscle)
+
+-- the places of a column stand at a stride
+pub index_of-stride : (grain first bucket : ℕ) (x : RelaxedFields) →
+    index_of grain first (at_bucket x 0) + bucket * bucket_states ≡ index_of grain first (at_bucket x bucket)
+index_of-stride grain first bucket x = omega arith
+
+pub relaxed_at : (x : RelaxedFields) (bucket : ℕ) → AreRelaxed x → AreRelaxed (at_bucket x bucket)
+relaxed_at x bucket bounds = record { iq = bounds.iq; innovation = bounds.innovation; veneration = bounds.veneration }
+
+-- a place is below the places of the next first number
+pub index_of-below : (grain first : ℕ) (x : RelaxedFields) → AreRelaxed x → first ≤ 1378 → grain ≤ 64 → x.bucket ≤ grain →
+    index_of grain first x < place_count grain (first + 1)
+index_of-below grain first x bounds low small within =
+    omega (arith, index_of-layers grain first x, effect_number-below x bounds, outer_below first x.bucket grain low within small)
+
+-- and no table has more places than fit
+pub index_of-small : (grain first : ℕ) (x : RelaxedFields) → AreRelaxed x → first ≤ 1378 → grain ≤ 64 → x.bucket ≤ grain →
+    index_of grain first x < 98598500
+index_of-small grain first x bounds low small within =
+    let product : (first + 1) * (grain + 1) ≤ 1379 * 65 = mul-le (first + 1) (grain + 1) 1379 65 (omega (arith, low)) (omega (arith, small)) in
+    omega (arith, product, index_of-below grain first x bounds low small within)

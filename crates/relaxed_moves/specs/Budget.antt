@@ -1,5 +1,5 @@
 -- What means are worth in CP.
-use Rattle.std.specs.Prelude.{ℕ, Bool, true, false, ◌+◌, ◌-◌, ◌*◌, ◌/◌, min, if◌then◌else◌}
+use Rattle.std.specs.Prelude.{ℕ, Bool, true, false, ◌≡◌, ◌+◌, ◌-◌, ◌*◌, ◌/◌, min, if◌then◌else◌}
 use Rattle.action_table.specs.declared.action.Action.{Action}
 use Rattle.action_table.specs.declared.action.Action.TheVariants.{WasteNot, WasteNotII, Groundwork, Manipulation, ImmaculateMend, TrainedPerfection}
 use Rattle.action_table.specs.Table.{row_of}
@@ -8,6 +8,7 @@ use Rattle.craft_state.specs.declared.Perfection.TheVariants.{Spent}
 use Rattle.craft_state.specs.Craft.{StateFields}
 use Rattle.craft_settings.specs.Ranges.{SettingsFields}
 use Rattle.craft_settings.specs.Rules.{is_allowed}
+use Rattle.relaxed_moves.specs.declared.kinds.Weights.{Weights}
 
 -- what five points of durability are worth: Manipulation gives eight fives for 96,
 -- and Immaculate Mend at most all but one for 112
@@ -23,6 +24,12 @@ sigma_of g = if is_allowed g WasteNotII then 12 else if is_allowed g WasteNot th
 -- what the last action may overdraw
 unfoldable pub slack_of : SettingsFields → ℕ
 slack_of g = if is_allowed g Groundwork then 3 * rho_of g else rho_of g
+
+-- the weights of a craft
+pub record AreWeights (g : SettingsFields) (weights : Weights) : Type 0 where
+  pub rho : weights.rho ≡ rho_of g
+  pub sigma : weights.sigma ≡ sigma_of g
+  pub slack : weights.slack ≡ slack_of g
 
 abbrev pub is_spent : Perfection → Bool
 is_spent Spent = true

@@ -1,5 +1,5 @@
 ghost use Rattle.std.specs.Prelude.{◌≡◌, ◌≤◌, ◌*◌, IsTrue, if◌then◌else◌};
-ghost use Rattle.relaxed_moves.specs.Budget.{rho_of, sigma_of, slack_of, is_spent, potential_of, start_potential_of, cost_of};
+ghost use Rattle.relaxed_moves.specs.Budget.{rho_of, sigma_of, slack_of, AreWeights, is_spent, potential_of, start_potential_of, cost_of};
 ghost use Rattle.relaxed_moves.specs.Moves.{is_listed};
 ghost use Rattle.relaxed_moves.specs.Places.{most_budget};
 
@@ -14,6 +14,7 @@ pub fn weights(g: &Settings) -> Weights
     ensures rho { result.rho ≡ rho_of g.now }
     ensures sigma { result.sigma ≡ sigma_of g.now }
     ensures slack { result.slack ≡ slack_of g.now }
+    ensures are { AreWeights g.now result }
     ensures rho_low { 5 ≤ result.rho }
     ensures rho_high { result.rho ≤ 14 }
     ensures sigma_low { 12 ≤ result.sigma }
@@ -70,12 +71,20 @@ fn sigma(g: &Settings) -> u32
 }
 
 /// What the means of a state are worth, in CP.
-#[tactic(auto, using(crate::proofs::Products::products), unfolding(crate::specs::Budget::potential_of))]
 pub fn potential(g: &Settings, s: &State) -> u32
     ensures value { result ≡ potential_of g.now s.now }
     ensures high { result ≤ 1714 }
 {
-    let weights = weights(g);
+    potential_by(g, &weights(g), s)
+}
+
+/// What the means of a state are worth, in CP, by the weights of the craft.
+#[tactic(auto, using(crate::proofs::Products::products, crate::proofs::Costs::small_weights), unfolding(crate::specs::Budget::potential_of))]
+pub fn potential_by(g: &Settings, weights: &Weights, s: &State) -> u32
+    requires { AreWeights g.now weights.now }
+    ensures value { result ≡ potential_of g.now s.now }
+    ensures high { result ≤ 1714 }
+{
     s.cp + weights.rho * (s.durability / 5)
         + weights.rho * s.effects.manipulation
         + weights.sigma * s.effects.waste
@@ -111,13 +120,22 @@ pub fn start_potential(g: &Settings) -> u32
 }
 
 /// What a relaxed move costs, in CP: its own CP and what its durability is worth.
-#[tactic(auto, using(crate::proofs::Products::products), unfolding(crate::specs::Budget::cost_of))]
 pub fn move_cost(g: &Settings, action: Action) -> u32
     requires { IsTrue (is_listed g.now action) }
     ensures value { result ≡ cost_of g.now action }
     ensures low { 10 ≤ result }
 {
-    let weights = weights(g);
+    move_cost_by(g, &weights(g), action)
+}
+
+/// What a relaxed move costs, in CP, by the weights of the craft.
+#[tactic(auto, using(crate::proofs::Products::products, crate::proofs::Costs::small_weights), unfolding(crate::specs::Budget::cost_of))]
+pub fn move_cost_by(g: &Settings, weights: &Weights, action: Action) -> u32
+    requires weights { AreWeights g.now weights.now }
+    requires listed { IsTrue (is_listed g.now action) }
+    ensures value { result ≡ cost_of g.now action }
+    ensures low { 10 ≤ result }
+{
     let row = row(action, g.level);
     let fives = row.durability / 5;
     let whole = weights.rho * fives;

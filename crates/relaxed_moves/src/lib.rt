@@ -6,11 +6,13 @@ mod kinds;
 pub mod laws;
 mod moves;
 mod places;
+mod scales;
 
-pub use budget::{move_cost, potential, start_potential, weights};
+pub use budget::{move_cost, move_cost_by, potential, potential_by, start_potential, weights};
 pub use kinds::{Relaxed, Weights};
-pub use moves::{is_listed, is_move, move_gain, move_on, relax, unit};
-pub use places::{index, of_index, quality_size, step_size};
+pub use moves::{is_listed, is_move, move_gain, move_on, move_on_by, relax, relax_by, unit};
+pub use places::{at_bucket, bucket_place, column_place, index, of_index, quality_size, step_size};
+pub use scales::Scale;
 
 #[cfg(test)]
 mod tests;

@@ -50,7 +50,6 @@ pub fn unit(g: &Settings, grain: u32) -> u32
 }
 
 /// What the bounds see of a state.
-#[tactic(auto, using(crate::proofs::Products::bucket_below), unfolding(crate::specs::Moves::relax_of))]
 pub fn relax(g: &Settings, grain: u32, s: &State) -> Relaxed
     requires low { 1 ≤ grain }
     requires high { grain ≤ 64 }
@@ -58,8 +57,21 @@ pub fn relax(g: &Settings, grain: u32, s: &State) -> Relaxed
     ensures value { result ≡ relax_of g.now grain s.now }
     ensures bucket { result.bucket ≤ grain }
 {
+    relax_by(g, grain, unit(g, grain), s)
+}
+
+/// What the bounds see of a state, by the progress of a bucket.
+#[tactic(auto, using(crate::proofs::Products::bucket_below, crate::proofs::Products::unit_covers), unfolding(crate::specs::Moves::relax_of, crate::specs::Moves::unit_of))]
+pub fn relax_by(g: &Settings, grain: u32, unit: u32, s: &State) -> Relaxed
+    requires low { 1 ≤ grain }
+    requires high { grain ≤ 64 }
+    requires unit { unit ≡ unit_of g.now grain }
+    requires progress { s.now.progress ≤ g.now.progress }
+    ensures value { result ≡ relax_of g.now grain s.now }
+    ensures bucket { result.bucket ≤ grain }
+{
     Relaxed {
-        bucket: (g.progress - s.progress) / unit(g, grain),
+        bucket: (g.progress - s.progress) / unit,
         iq: s.effects.iq,
         innovation: s.effects.innovation,
         veneration: s.effects.veneration,
@@ -93,7 +105,6 @@ pub fn move_gain(g: &Settings, x: &Relaxed, action: Action) -> u32
 }
 
 /// The relaxed state after a move.
-#[tactic(auto, unfolding(crate::specs::Moves::move_on_of))]
 pub fn move_on(g: &Settings, grain: u32, x: &Relaxed, action: Action) -> Relaxed
     requires low { 1 ≤ grain }
     requires high { grain ≤ 64 }
@@ -102,9 +113,23 @@ pub fn move_on(g: &Settings, grain: u32, x: &Relaxed, action: Action) -> Relaxed
     ensures value { result ≡ move_on_of g.now grain x.now action }
     ensures bucket { result.bucket ≤ x.now.bucket }
 {
+    move_on_by(g, grain, unit(g, grain), x, action)
+}
+
+/// The relaxed state after a move, by the progress of a bucket.
+#[tactic(auto, unfolding(crate::specs::Moves::move_on_of))]
+pub fn move_on_by(g: &Settings, grain: u32, unit: u32, x: &Relaxed, action: Action) -> Relaxed
+    requires low { 1 ≤ grain }
+    requires high { grain ≤ 64 }
+    requires unit { unit ≡ unit_of g.now grain }
+    requires bucket { x.now.bucket ≤ grain }
+    requires is_move { IsTrue (is_move_of g.now x.now action) }
+    ensures value { result ≡ move_on_of g.now grain x.now action }
+    ensures bucket { result.bucket ≤ x.now.bucket }
+{
     let row = row(action, g.level);
     Relaxed {
-        bucket: next_bucket(g, grain, x, row.progress),
+        bucket: next_bucket(g, grain, unit, x, row.progress),
         iq: if row.quality > 0 {
             next_iq(g, x.iq, action)
         } else {
@@ -129,16 +154,20 @@ pub fn move_on(g: &Settings, grain: u32, x: &Relaxed, action: Action) -> Relaxed
 
 // The bucket after the progress of a move, rounded down.
 #[tactic(auto, using(crate::proofs::Products::products))]
-fn next_bucket(g: &Settings, grain: u32, x: &Relaxed, progress: u32) -> u32
+fn next_bucket(g: &Settings, grain: u32, unit: u32, x: &Relaxed, progress: u32) -> u32
     requires low { 1 ≤ grain }
     requires high { grain ≤ 64 }
+    requires unit { unit ≡ unit_of g.now grain }
     requires bucket { x.now.bucket ≤ grain }
     requires progress { progress ≤ 400 }
     ensures value { result ≡ (x.now.bucket * unit_of g.now grain - progress_gain_of g.now.base_progress progress (nat_lt 0 x.now.veneration) x.now.muscle) / unit_of g.now grain }
     ensures falls { result ≤ x.now.bucket }
 {
-    let unit = unit(g, grain);
-    let gain = progress_gain(g.base_progress, progress, x.veneration > 0, x.muscle);
+    let base = g.base_progress;
+    if progress == 0 {
+        return x.bucket;
+    }
+    let gain = progress_gain(base, progress, x.veneration > 0, x.muscle);
     (x.bucket * unit).saturating_sub(gain) / unit
 }
 

@@ -1,5 +1,6 @@
 ghost use Rattle.std.specs.Prelude.{ℕ, ◌≡◌, ◌≤◌, ◌<◌, ◌+◌};
 ghost use Rattle.relaxed_moves.specs.Budget.{start_potential_of};
+ghost use Rattle.relaxed_moves.specs.Columns.{at_bucket};
 ghost use Rattle.relaxed_moves.specs.Moves.{RelaxedFields, AreRelaxed};
 ghost use Rattle.relaxed_moves.specs.Places.{most_budget, place_count, quality_size_of, step_size_of, index_of, first_at, state_at};
 
@@ -62,6 +63,40 @@ fn place(grain: u32, first: u32, x: &Relaxed) -> usize
     let outer = first as usize * (grain as usize + 1) + x.bucket as usize;
     let place = (outer * 11 + x.iq as usize) * 5 + x.innovation as usize;
     ((place * 5 + x.veneration as usize) * 2 + x.strides as usize) * 2 + x.muscle as usize
+}
+
+/// The relaxed state of a bucket, with the effects of another.
+pub fn at_bucket(x: &Relaxed, bucket: u32) -> Relaxed
+    ensures value { result ≡ at_bucket x.now bucket }
+    ensures bounds { AreRelaxed result }
+{
+    Relaxed { bucket, ..*x }
+}
+
+/// The place of bucket 0 of a column: of a budget of at most 1378 or a number of moves, and the effects of `x`.
+pub fn column_place(grain: u32, first: u32, x: &Relaxed) -> usize
+    requires low { 1 ≤ grain }
+    requires high { grain ≤ 64 }
+    requires first { first ≤ most_budget }
+    ensures { result ≡ index_of grain first (at_bucket x.now 0) }
+{
+    index(grain, first, &at_bucket(x, 0))
+}
+
+/// The place of a bucket of a column, from that of bucket 0.
+pub fn bucket_place(grain: u32, first: u32, x: &Relaxed, bottom: usize, bucket: u32) -> usize
+    requires low { 1 ≤ grain }
+    requires high { grain ≤ 64 }
+    requires first { first ≤ most_budget }
+    requires bottom { bottom ≡ index_of grain first (at_bucket x.now 0) }
+    requires bucket { bucket ≤ grain }
+    ensures value { result ≡ index_of grain first (at_bucket x.now bucket) }
+    ensures below { result < place_count grain (first + 1) }
+    ensures first { first_at grain result ≡ first }
+    ensures state { state_at grain result ≡ at_bucket x.now bucket }
+{
+    let _iq = x.iq;
+    bottom + bucket as usize * BUCKET_STATES
 }
 
 /// The budget or number of moves, and the relaxed state, that a place stands for.

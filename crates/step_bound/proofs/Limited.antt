@@ -1,5 +1,5 @@
 -- The limit within so many steps, by what the calls answer.
-use Rattle.std.proofs.Common.{ℕ, Bool, true, false, Option, Some, ◌≡◌, ◌≤◌, ◌<◌, nat_le, refl, ◌∙◌, ap, sym, arith, if◌then◌else◌}
+use Rattle.std.proofs.Common.{ℕ, Bool, true, false, Option, Some, ◌≡◌, ◌≤◌, ◌<◌, nat_le, refl, ◌∙◌, ap, arith, if◌then◌else◌}
 use Rattle.craft_state.specs.Craft.{StateFields}
 use Rattle.craft_settings.specs.Ranges.{SettingsFields}
 use Rattle.craft_settings.specs.Rules.{cap_of}

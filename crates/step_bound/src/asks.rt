@@ -4,10 +4,11 @@ ghost use Rattle.seat_tables.specs.Seats.{IsOf, StillSees};
 ghost use Rattle.step_rules.specs.Legality.{IsWithin};
 ghost use Rattle.relaxed_moves.specs.Optimum.{reach, within_of};
 ghost use Rattle.relaxed_moves.specs.Places.{most_moves, index_of};
+ghost use Rattle.relaxed_moves.specs.Scales.{IsScale};
 
 use crate::truth::StepTruth;
 use craft_state::State;
-use relaxed_moves::Relaxed;
+use relaxed_moves::{Relaxed, Scale};
 use seat_tables::{Seat, Shared};
 use table_bound::limit_within;
 
@@ -49,8 +50,28 @@ pub fn within(
     ensures value { result ≡ within_of shared.now.truth.g shared.now.truth.grain s.now j }
     ensures still { StillSees seat.old.view seat.new.view }
 {
+    let truth = shared.truth();
+    within_by(shared, seat, &Scale::new(&truth.g, truth.grain), s, j)
+}
+
+/// The limit of a state in at most `j` steps more, by the scale of the table's craft and grain, which a search makes
+/// once.
+pub fn within_by(
+    shared: &Shared<StepTruth>,
+    seat: &mut Seat<StepTruth>,
+    scale: &Scale,
+    s: &State,
+    j: u32,
+) -> Option<u32>
+    requires of { IsOf shared.now seat.old }
+    requires scale { IsScale shared.now.truth.g shared.now.truth.grain scale.now }
+    requires within { IsWithin shared.now.truth.g s.now }
+    ensures of { IsOf shared.now seat.new }
+    ensures value { result ≡ within_of shared.now.truth.g shared.now.truth.grain s.now j }
+    ensures still { StillSees seat.old.view seat.new.view }
+{
     if j > MOST_MOVES {
         return Some(shared.truth().g.cap());
     }
-    limit_within(shared, seat, j, s)
+    limit_within(shared, seat, scale, j, s)
 }

@@ -6,5 +6,5 @@ mod asks;
 mod tests;
 mod truth;
 
-pub use asks::{ask, within};
+pub use asks::{ask, within, within_by};
 pub use truth::StepTruth;

@@ -1,11 +1,11 @@
 // What the words of the step table say.
-ghost use Rattle.std.specs.Prelude.{◌≤◌};
+ghost use Rattle.std.specs.Prelude.{◌≡◌, ◌≤◌};
 ghost use Rattle.craft_settings.specs.Ranges.{AreSettings, IsFromTo};
 
 use action_table::Action;
 use craft_settings::Settings;
 use race_core::Truth;
-use relaxed_moves::step_size;
+use relaxed_moves::{Scale, step_size};
 use table_bound::Bound;
 
 /// The step table of a craft: the entry of an index is the step optimum of the number of moves and the relaxed state
@@ -16,6 +16,18 @@ pub struct StepTruth {
     pub grain: u32,
     pub ghost settings: { AreSettings g },
     pub ghost grain_range: { IsFromTo 1 64 grain },
+}
+
+impl StepTruth {
+    /// The truth of a craft and a grain from 1 to 64.
+    pub fn new(g: &Settings, grain: u32) -> StepTruth
+        requires { IsFromTo 1 64 grain }
+        ensures g { result.g ≡ g.now }
+        ensures grain { result.grain ≡ grain }
+    {
+        let _level = g.level;
+        StepTruth { g: *g, grain }
+    }
 }
 
 impl Truth for StepTruth {
@@ -55,7 +67,7 @@ impl Bound for StepTruth {
         self.grain
     }
 
-    fn price(&self, _action: Action) -> u32 {
+    fn price(&self, _scale: &Scale, _action: Action) -> u32 {
         1
     }
 

@@ -7,14 +7,16 @@ use Rattle.lane_front.specs.MaxPlus.{max_plus_of}
 use Rattle.race_core.specs.declared.entry.Entry.{Entry}
 use Rattle.race_core.specs.declared.view.View.{View}
 use Rattle.seat_tables.specs.Seats.{StillSees}
-use Rattle.relaxed_moves.specs.FirstMoves.{at_end, leads, leads_with}
+use Rattle.relaxed_moves.specs.Columns.{coded, at_bucket}
+use Rattle.relaxed_moves.specs.FirstMoves.{leads, leads_with}
 use Rattle.relaxed_moves.specs.Moves.{RelaxedFields, AreRelaxed}
-use Rattle.relaxed_moves.specs.Optimum.{option_max, best_plan}
+use Rattle.relaxed_moves.specs.Optimum.{option_max}
 use Rattle.relaxed_moves.specs.Places.{index_of}
+use Rattle.relaxed_moves.proofs.Indices.{relaxed_at}
 use Rattle.relaxed_moves.proofs.FirstMoves.{leads-none, leads-take, leads-all}
 use Rattle.table_bound.proofs.Fits.{coded_small}
 use Rattle.table_bound.specs.Bounds.{BoundRules, AreBoundRules, optimum, entry_by}
-use Rattle.table_bound.specs.Columns.{coded, at_bucket, IsColumn, Leads, TakesIn, LeadsNowhere, LeadsDown, SeesBuckets}
+use Rattle.table_bound.specs.Columns.{IsColumn, IsColumnFrom, IsLowered, Leads, TakesIn, LeadsNowhere, LeadsDown, SeesBuckets}
 
 coded-injective : (a b : Option ℕ) → coded a ≡ coded b → a ≡ b
 coded-injective None None e = refl
@@ -81,19 +83,27 @@ takes-none r budget x action row none = record {
 }
 
 -- what begins with the action, by another column, moved up
-pub takes-turn : (r : BoundRules) (budget : ℕ) (x : RelaxedFields) (action : Action) (rest gain down : ℕ) (next : RelaxedFields) (old new column moved : List ℕ)
-    → length old ≡ r.grain + 1 → length column ≡ r.grain + 1 → LeadsDown r budget x action rest gain down next → IsColumn r rest next column
-    → ((b : ℕ) → b < length column → slice_index moved b ≡ slice_index column (b - down))
+pub takes-turn : (r : BoundRules) (budget : ℕ) (x : RelaxedFields) (action : Action) (rest gain down : ℕ) (next : RelaxedFields) (old new moved : List ℕ)
+    → length old ≡ r.grain + 1 → length moved ≡ r.grain + 1 → LeadsDown r budget x action rest gain down next → IsLowered r rest next down moved
     → ((b : ℕ) → b < length old → slice_index new b ≡ max_plus_of (slice_index old b) (slice_index moved b) gain)
     → TakesIn r budget x action old new
-takes-turn r budget x action rest gain down next old new column moved wide long leads is up plus = record {
+takes-turn r budget x action rest gain down next old new moved wide long leads is plus = record {
   at = λ b lt.
-      let there : b < length column = omega (arith, lt, wide, long) in
-      let inside : b - down < length column = omega (arith, there) in
+      let there : b < length moved = omega (arith, lt, wide, long) in
       let within : b ≤ r.grain = omega (arith, lt, wide) in
-      plus b lt ∙ ap (λ n. max_plus_of (slice_index old b) n gain) (up b there ∙ is.at (b - down) inside)
+      plus b lt ∙ ap (λ n. max_plus_of (slice_index old b) n gain) (is.at b there)
       ∙ max_plus-coded (slice_index old b) gain (optimum r rest (at_bucket next (b - down)))
       ∙ ap (λ o. max (slice_index old b) (coded o)) (sym (leads.at b within));
+}
+
+-- a column that is moved up
+pub lowers : (r : BoundRules) (budget : ℕ) (x : RelaxedFields) (down : ℕ) (column moved : List ℕ) → IsColumn r budget x column → length moved ≡ length column
+    → ((b : ℕ) → b < length column → slice_index moved b ≡ slice_index column (b - down)) → IsLowered r budget x down moved
+lowers r budget x down column moved is long up = record {
+  at = λ b lt.
+      let inside : b < length column = omega (arith, lt, long) in
+      let there : b - down < length column = omega (arith, inside) in
+      up b inside ∙ is.at (b - down) there;
 }
 
 below_or_at : (b n : ℕ) → b < n + 1 → (b < n) ⊎ (b ≡ n)
@@ -110,14 +120,27 @@ sees-more n r budget x v w still this before = record {
 }
 
 -- one bucket more was read
-pub reads-more : (r : BoundRules) (budget : ℕ) (x : RelaxedFields) (n number : ℕ) (row : List ℕ) → n < length row
-    → ((b : ℕ) → b < n → slice_index row b ≡ coded (optimum r budget (at_bucket x b)))
+pub reads-more : (r : BoundRules) (budget : ℕ) (x : RelaxedFields) (down n number : ℕ) (row : List ℕ) → n + down < length row
+    → ((b : ℕ) → b < n → slice_index row (b + down) ≡ coded (optimum r budget (at_bucket x b)))
     → number ≡ coded (optimum r budget (at_bucket x n))
-    → (b : ℕ) → b < n + 1 → slice_index (slice_set row n number) b ≡ coded (optimum r budget (at_bucket x b))
-reads-more r budget x n number row inside before this b lt = elim (below_or_at b n lt) [
-  | inl low ↦ get_or-set_other row n b number 0 (let ne : b ≢ n = omega (arith, low) in ne) ∙ before b low
-  | inr same ↦ subst (λ k. slice_index (slice_set row n number) k ≡ coded (optimum r budget (at_bucket x k))) (sym same) (rw get_or-set_same this)
+    → (b : ℕ) → b < n + 1 → slice_index (slice_set row (n + down) number) (b + down) ≡ coded (optimum r budget (at_bucket x b))
+reads-more r budget x down n number row inside before this b lt = elim (below_or_at b n lt) [
+  | inl low ↦ get_or-set_other row (n + down) (b + down) number 0 (let ne : b + down ≢ n + down = omega (arith, low) in ne) ∙ before b low
+  | inr same ↦ subst (λ k. slice_index (slice_set row (n + down) number) (k + down) ≡ coded (optimum r budget (at_bucket x k))) (sym same) (rw get_or-set_same this)
 ]
+
+back : (b down : ℕ) → max b down ≡ b - down + down
+back b down = omega arith
+
+-- the places below take the number of bucket 0
+pub spreads : (r : BoundRules) (budget : ℕ) (x : RelaxedFields) (down : ℕ) (column moved : List ℕ) → IsColumnFrom r budget x down column → down < length column → length moved ≡ length column
+    → ((b : ℕ) → b < length column → slice_index moved b ≡ slice_index column (max b down)) → IsLowered r budget x down moved
+spreads r budget x down column moved is low long spread = record {
+  at = λ b lt.
+      let inside : b < length column = omega (arith, lt, long) in
+      let there : b - down + down < length column = omega (arith, inside, low) in
+      spread b inside ∙ ap (λ (n : ℕ). slice_index column n) (back b down) ∙ is.at (b - down) there;
+}
 
 entry_by-injective : (a b : Option ℕ) → entry_by a ≡ entry_by b → a ≡ b
 entry_by-injective None None e = refl
@@ -133,18 +156,14 @@ number_small r budget x entry rules bounds within is o e =
     let low : coded o ≤ 137800001 = subst (λ p. coded p ≤ 137800001) same (coded_small r budget x rules bounds within) in
     omega (arith, low)
 
--- the bucket is free
-pub relaxed_at : (x : RelaxedFields) (bucket : ℕ) → AreRelaxed x → AreRelaxed (at_bucket x bucket)
-relaxed_at x bucket bounds = record { iq = bounds.iq; innovation = bounds.innovation; veneration = bounds.veneration }
-
 -- one more gain on top of a number of a column, moved up, fits
-pub sum_fits : (r : BoundRules) (budget gain down : ℕ) (x : RelaxedFields) (column moved : List ℕ) → AreBoundRules r → AreRelaxed x → budget ≤ r.most → gain ≤ 100000
-    → IsColumn r budget x column → length moved ≡ length column → ((b : ℕ) → b < length column → slice_index moved b ≡ slice_index column (b - down))
-    → (k : ℕ) → k < length moved → slice_index moved k + gain < 2 ^ 32
-sum_fits r budget gain down x column moved rules bounds within small is long up k lt =
-    let inside : k < length column = omega (arith, lt, long) in
-    let there : k - down < length column = omega (arith, inside) in
-    let low : slice_index column (k - down) ≤ 137800001 =
-    subst (λ (n : ℕ). n ≤ 137800001) (sym (is.at (k - down) there)) (coded_small r budget (at_bucket x (k - down)) rules (relaxed_at x (k - down) bounds) within) in
-    let low' : slice_index moved k ≤ 137800001 = subst (λ (n : ℕ). n ≤ 137800001) (sym (up k inside)) low in
-    omega (arith, low', small)
+pub sum_fits : (r : BoundRules) (budget gain down : ℕ) (x : RelaxedFields) (moved : List ℕ) → AreBoundRules r → AreRelaxed x → budget ≤ r.most → gain ≤ 100000
+    → IsLowered r budget x down moved → (k : ℕ) → k < length moved → slice_index moved k + gain < 2 ^ 32
+sum_fits r budget gain down x moved rules bounds within small is k lt =
+    let low : slice_index moved k ≤ 137800001 =
+    subst (λ (n : ℕ). n ≤ 137800001) (sym (is.at k lt)) (coded_small r budget (at_bucket x (k - down)) rules (relaxed_at x (k - down) bounds) within) in
+    omega (arith, low, small)
+
+-- the bucket of the state that a column is asked for is free
+pub sees-lowered : {T : Type 0} (n : ℕ) (r : BoundRules) (budget bucket : ℕ) (x : RelaxedFields) (v : View T) → SeesBuckets n r budget (at_bucket x bucket) v → SeesBuckets n r budget x v
+sees-lowered n r budget bucket x v sees = record { seen = sees.seen }

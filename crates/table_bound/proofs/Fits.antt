@@ -1,17 +1,17 @@
 -- What the words hold fits them.
-use Rattle.std.proofs.Common.{ℕ, Option, Some, None, ◌≡◌, ◌≤◌, ◌<◌, ◌+◌, ◌*◌, ◌/◌, ◌^◌, min, subst, arith}
+use Rattle.std.proofs.Common.{ℕ, Option, Some, None, ◌≡◌, ◌≤◌, ◌<◌, ◌+◌, ◌*◌, ◌/◌, ◌^◌, subst, arith}
 use Rattle.std.proofs.lemmas.Nat.{mul-le, div_below}
 use Rattle.craft_state.specs.Craft.{StateFields, AreEffects}
 use Rattle.craft_settings.specs.Ranges.{SettingsFields, AreSettings}
 use Rattle.race_core.specs.Codes.{Fits32}
 use Rattle.step_rules.specs.Macro.{IsReached}
+use Rattle.relaxed_moves.specs.Columns.{coded}
 use Rattle.relaxed_moves.specs.Moves.{RelaxedFields, AreRelaxed, relax_of}
 use Rattle.relaxed_moves.specs.Optimum.{option_le}
 use Rattle.relaxed_moves.specs.Places.{most_budget, most_moves, first_at, state_at}
 use Rattle.relaxed_moves.proofs.Sizes.{best_plan-small}
 use Rattle.relaxed_moves.proofs.Indices.{AreRelaxed-state_at}
 use Rattle.table_bound.specs.Bounds.{BoundRules, AreBoundRules, optimum, entry_by, size_by, entry_at}
-use Rattle.table_bound.specs.Columns.{coded}
 
 -- the greatest number of moves is no greater than the greatest budget
 pub moves_fit : most_moves ≤ most_budget

@@ -3,13 +3,13 @@ use Rattle.std.proofs.Common.{ℕ, Bool, true, false, Option, None, ◌≡◌, �
 use Rattle.std.specs.Option.{option_map}
 use Rattle.action_table.specs.declared.action.Action.{Action}
 use Rattle.craft_settings.specs.Ranges.{SettingsFields}
-use Rattle.relaxed_moves.specs.FirstMoves.{leads_with}
+use Rattle.relaxed_moves.specs.Columns.{at_bucket}
 use Rattle.relaxed_moves.specs.Moves.{RelaxedFields, AreRelaxed, is_move_of, move_gain_of, move_on_of, move_progress, unit_of}
-use Rattle.relaxed_moves.specs.Optimum.{best_plan}
 use Rattle.relaxed_moves.proofs.Columns.{move_on-column, is_move-column, move_gain-column, shift_of}
+use Rattle.relaxed_moves.proofs.Indices.{relaxed_at}
 use Rattle.relaxed_moves.proofs.Costs.{unit_positive}
 use Rattle.table_bound.specs.Bounds.{BoundRules, AreBoundRules, optimum}
-use Rattle.table_bound.specs.Columns.{at_bucket, LeadsNowhere, LeadsDown}
+use Rattle.table_bound.specs.Columns.{LeadsNowhere, LeadsDown}
 
 both : (c d : Bool) (o : Option ℕ) → c ≡ true → d ≡ true → (if c && d then o else None) ≡ o
 both true true o e f = refl
@@ -55,6 +55,7 @@ leads_down r budget x action price gain next rules bounds may price_is low paid 
   less = omega arith;
   bounds = bounds;
   small = small;
+  low = omega arith;
   at = λ b within.
       both _ _ _ (is_move-column r.g b x action ∙ may) (let fits : nat_le (r.price action) budget ≡ true = grind (arith, price_is, paid) in fits)
       ∙ ap (λ n. option_map (λ most. n + most) (optimum r (budget - r.price action) (move_on_of r.g r.grain (at_bucket x b) action))) (move_gain-column r.g b x action ∙ sym (move_gain-column r.g r.grain x action) ∙ sym gain_is)
@@ -81,3 +82,14 @@ turn_some r budget x action g grain top may price gain next bucket rules bounds 
     subst (λ (n : ℕ). LeadsDown r budget x action (budget - price) gain (n - bucket) next) (sym grain_is)
     (subst (λ (n : ℕ). LeadsDown r budget x action (budget - price) gain (r.grain - n) next) (sym bucket_is)
     (leads_down r budget x action price gain next rules bounds move price_is low paid small gains leads))
+
+-- the bucket of the state after the move is free
+pub raised : (r : BoundRules) (budget : ℕ) (x : RelaxedFields) (action : Action) (rest gain down : ℕ) (next : RelaxedFields)
+    → LeadsDown r budget x action rest gain down next → LeadsDown r budget x action rest gain down (at_bucket next r.grain)
+raised r budget x action rest gain down next leads = record {
+  less = leads.less;
+  small = leads.small;
+  low = leads.low;
+  bounds = relaxed_at next r.grain leads.bounds;
+  at = leads.at;
+}

@@ -28,16 +28,34 @@ pub fn ask<T: Bound>(
     ensures seen { Contains seat.new.view.seen (index_of (T.rules shared.now.truth).grain budget x.now) }
     ensures still { StillSees seat.old.view seat.new.view }
 {
-    if let Some(entry) = look(shared, seat, budget, x) {
-        return optimum_in(entry);
+    match look(shared, seat, budget, x) {
+        Some(entry) => optimum_in(entry),
+        None => ask_column(shared, seat, budget, x),
     }
-    let buckets = shared.truth().grain() as usize + 1;
-    let mut row = [0u32; MOST_BUCKETS];
-    ask_column(shared, seat, budget, x, &mut row[..buckets])
 }
 
-// The same, where the column is to be computed.
+// The same, where the column is to be computed. Its row stands here, so that a word that is there costs no row.
 fn ask_column<T: Bound>(
+    shared: &Shared<T>,
+    seat: &mut Seat<T>,
+    budget: u32,
+    x: &Relaxed,
+) -> Option<u32>
+    requires of { IsOf shared.now seat.old }
+    requires budget { budget ≤ (T.rules shared.now.truth).most }
+    requires bucket { x.now.bucket ≤ (T.rules shared.now.truth).grain }
+    ensures of { IsOf shared.now seat.new }
+    ensures value { result ≡ optimum (T.rules shared.now.truth) budget x.now }
+    ensures seen { Contains seat.new.view.seen (index_of (T.rules shared.now.truth).grain budget x.now) }
+    ensures still { StillSees seat.old.view seat.new.view }
+{
+    let buckets = shared.truth().grain() as usize + 1;
+    let mut row = [0u32; MOST_BUCKETS];
+    ask_row(shared, seat, budget, x, &mut row[..buckets])
+}
+
+// The same, by a row for the column.
+fn ask_row<T: Bound>(
     shared: &Shared<T>,
     seat: &mut Seat<T>,
     budget: u32,

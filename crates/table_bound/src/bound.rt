@@ -2,6 +2,7 @@
 use action_table::Action;
 use craft_settings::Settings;
 use race_core::Truth;
+use relaxed_moves::Scale;
 
 /// A truth whose entries are optima: the greatest gain of lists of relaxed moves that do all the progress within a
 /// budget. What a move takes from the budget is the bound's own.
@@ -9,6 +10,7 @@ pub trait Bound: Truth {
     ghost use Rattle.std.specs.Prelude.{◌≡◌, ◌≤◌, ℕ, IsTrue};
     ghost use Rattle.race_core.specs.declared.entry.Entry.{Entry};
     ghost use Rattle.relaxed_moves.specs.Moves.{is_listed};
+    ghost use Rattle.relaxed_moves.specs.Scales.{IsScale};
     ghost use Rattle.table_bound.specs.Bounds.{BoundRules, AreBoundRules, size_by, entry_at};
 
     ghost rules: { Self → BoundRules };
@@ -24,8 +26,9 @@ pub trait Bound: Truth {
         ensures high { result ≤ 64 };
 
     /// What a relaxed move takes from the budget, at least 1.
-    fn price(&self, action: Action) -> u32
-        requires { IsTrue (is_listed (rules self.now).g action) }
+    fn price(&self, scale: &Scale, action: Action) -> u32
+        requires scale { IsScale (rules self.now).g (rules self.now).grain scale.now }
+        requires listed { IsTrue (is_listed (rules self.now).g action) }
         ensures value { result ≡ (rules self.now).price action }
         ensures low { 1 ≤ result };
 

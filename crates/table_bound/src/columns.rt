@@ -1,101 +1,91 @@
 // Columns: read from the table, or computed and put there.
 ghost use Rattle.std.specs.Prelude.{◌≡◌, ℕ, ◌+◌, ◌<◌, ◌≤◌, length, IsTrue};
 ghost use Rattle.seat_tables.specs.Seats.{IsOf, StillSees};
-ghost use Rattle.table_bound.specs.Columns.{IsColumn, TakesIn, LeadsDown, SeesBuckets};
+ghost use Rattle.relaxed_moves.specs.Scales.{IsScale};
+ghost use Rattle.table_bound.specs.Columns.{IsPlaced, IsColumn, IsColumnFrom, IsLowered, TakesIn, LeadsDown, SeesBuckets};
 
 use crate::bound::Bound;
-use crate::rows::{at_bucket, begin, entry_of_number, move_up, number_of_entry};
+use crate::rows::{begin, entry_of_number, move_up, number_of_entry, spread};
 use crate::turns::{Turn, turn_by};
-use crate::words::{look, tell};
+use crate::words::{Column, column_of, look_at, tell};
 use action_table::Action;
 use lane_front::max_plus;
-use relaxed_moves::Relaxed;
+use relaxed_moves::{Relaxed, Scale};
 use seat_tables::{Seat, Shared};
 
 /// The most buckets of a column: 0 to the greatest grain.
 pub const MOST_BUCKETS: usize = 65;
 
-// How many actions there are.
-const ACTIONS: u8 = 26;
-
-// Reads a column. False where one of its words is still empty.
-fn read_column<T: Bound>(
+// Reads a column into a row from a place on. False where one of these words is still empty.
+fn read_from<T: Bound>(
     shared: &Shared<T>,
     seat: &mut Seat<T>,
-    budget: u32,
-    x: &Relaxed,
+    column: &Column,
+    down: usize,
     row: &mut [u32],
 ) -> bool
     requires of { IsOf shared.now seat.old }
-    requires budget { budget ≤ (T.rules shared.now.truth).most }
+    requires column { IsPlaced (T.rules shared.now.truth) column.now.budget column.now.x column.now.bottom }
     requires row { length row.old ≡ (T.rules shared.now.truth).grain + 1 }
+    requires down { down ≤ (T.rules shared.now.truth).grain }
     ensures of { IsOf shared.now seat.new }
-    ensures row { IsTrue result → IsColumn (T.rules shared.now.truth) budget x.now row.new }
-    ensures seen { IsTrue result → SeesBuckets (length row.old) (T.rules shared.now.truth) budget x.now seat.new.view }
+    ensures row { IsTrue result → IsColumnFrom (T.rules shared.now.truth) column.now.budget column.now.x down row.new }
     ensures still { StillSees seat.old.view seat.new.view }
 {
-    for bucket in 0..row.len() {
-        let x = at_bucket(x, bucket as u32);
-        match look(shared, seat, budget, &x) {
+    for bucket in 0..row.len() - down {
+        match look_at(shared, seat, column, bucket as u32) {
             None => return false,
-            Some(entry) => row[bucket] = number_of_entry(entry),
+            Some(entry) => row[bucket + down] = number_of_entry(entry),
         }
     }
     true
 }
 
 // Puts a column.
-fn put_column<T: Bound>(
-    shared: &Shared<T>,
-    seat: &mut Seat<T>,
-    budget: u32,
-    x: &Relaxed,
-    row: &[u32],
-)
+fn put_column<T: Bound>(shared: &Shared<T>, seat: &mut Seat<T>, column: &Column, row: &[u32])
     requires of { IsOf shared.now seat.old }
-    requires budget { budget ≤ (T.rules shared.now.truth).most }
+    requires column { IsPlaced (T.rules shared.now.truth) column.now.budget column.now.x column.now.bottom }
     requires row { length row.now ≡ (T.rules shared.now.truth).grain + 1 }
-    requires optima { IsColumn (T.rules shared.now.truth) budget x.now row.now }
+    requires optima { IsColumn (T.rules shared.now.truth) column.now.budget column.now.x row.now }
     ensures of { IsOf shared.now seat.new }
-    ensures seen { SeesBuckets (length row.now) (T.rules shared.now.truth) budget x.now seat.new.view }
+    ensures seen { SeesBuckets (length row.now) (T.rules shared.now.truth) column.now.budget column.now.x seat.new.view }
     ensures still { StillSees seat.old.view seat.new.view }
 {
     for bucket in 0..row.len() {
-        let x = at_bucket(x, bucket as u32);
-        tell(shared, seat, budget, &x, entry_of_number(row[bucket]));
+        tell(
+            shared,
+            seat,
+            column,
+            bucket as u32,
+            entry_of_number(row[bucket]),
+        );
     }
 }
 
-// Takes in the plans that begin with an action.
+// Takes in the plans that begin with an action, by a row for the column after it.
 #[cycle(columns)]
 fn take_in<T: Bound>(
     shared: &Shared<T>,
     seat: &mut Seat<T>,
-    budget: u32,
-    x: &Relaxed,
+    truth: &T,
+    scale: &Scale,
+    column: &Column,
     action: Action,
+    after: &mut [u32],
     row: &mut [u32],
 )
     requires of { IsOf shared.now seat.old }
-    requires budget { budget ≤ (T.rules shared.now.truth).most }
+    requires truth { truth.now ≡ shared.now.truth }
+    requires scale { IsScale (T.rules shared.now.truth).g (T.rules shared.now.truth).grain scale.now }
+    requires column { IsPlaced (T.rules shared.now.truth) column.now.budget column.now.x column.now.bottom }
+    requires after { length after.old ≡ (T.rules shared.now.truth).grain + 1 }
     requires row { length row.old ≡ (T.rules shared.now.truth).grain + 1 }
     ensures of { IsOf shared.now seat.new }
-    ensures row { TakesIn (T.rules shared.now.truth) budget x.now action row.old row.new }
+    ensures row { TakesIn (T.rules shared.now.truth) column.now.budget column.now.x action row.old row.new }
     ensures still { StillSees seat.old.view seat.new.view }
 {
-    if let Some(turn) = turn_by(shared, budget, x, action) {
-        let mut from = [0u32; MOST_BUCKETS];
-        let length = row.len();
-        take_turn(
-            shared,
-            seat,
-            budget,
-            x,
-            action,
-            &turn,
-            &mut from[..length],
-            row,
-        );
+    if let Some(turn) = turn_by(truth, scale, column, action) {
+        take_turn(shared, seat, scale, column, action, &turn, after, row);
     }
 }
 
@@ -104,52 +94,111 @@ fn take_in<T: Bound>(
 fn take_turn<T: Bound>(
     shared: &Shared<T>,
     seat: &mut Seat<T>,
-    budget: u32,
-    x: &Relaxed,
+    scale: &Scale,
+    column: &Column,
     action: Action,
     turn: &Turn,
-    from: &mut [u32],
+    after: &mut [u32],
     row: &mut [u32],
 )
     requires of { IsOf shared.now seat.old }
-    requires budget { budget ≤ (T.rules shared.now.truth).most }
-    requires turn { LeadsDown (T.rules shared.now.truth) budget x.now action turn.now.rest turn.now.gain turn.now.down turn.now.next }
-    requires from { length from.old ≡ (T.rules shared.now.truth).grain + 1 }
+    requires scale { IsScale (T.rules shared.now.truth).g (T.rules shared.now.truth).grain scale.now }
+    requires column { IsPlaced (T.rules shared.now.truth) column.now.budget column.now.x column.now.bottom }
+    requires turn { LeadsDown (T.rules shared.now.truth) column.now.budget column.now.x action turn.now.column.budget turn.now.gain turn.now.down turn.now.column.x }
+    requires placed { IsPlaced (T.rules shared.now.truth) turn.now.column.budget turn.now.column.x turn.now.column.bottom }
+    requires after { length after.old ≡ (T.rules shared.now.truth).grain + 1 }
     requires row { length row.old ≡ (T.rules shared.now.truth).grain + 1 }
     ensures of { IsOf shared.now seat.new }
-    ensures row { TakesIn (T.rules shared.now.truth) budget x.now action row.old row.new }
+    ensures row { TakesIn (T.rules shared.now.truth) column.now.budget column.now.x action row.old row.new }
     ensures still { StillSees seat.old.view seat.new.view }
 {
-    column(shared, seat, turn.rest, &turn.next, from);
-    move_up(from, turn.down);
-    max_plus(row, from, turn.gain);
+    lowered(shared, seat, scale, &turn.column, turn.down, after);
+    max_plus(row, after, turn.gain);
 }
 
-// A column, read or filled.
+// A column that is moved up, read or else filled.
 #[cycle(columns)]
-fn column<T: Bound>(
+fn lowered<T: Bound>(
     shared: &Shared<T>,
     seat: &mut Seat<T>,
-    budget: u32,
-    x: &Relaxed,
+    scale: &Scale,
+    column: &Column,
+    down: usize,
     row: &mut [u32],
 )
     requires of { IsOf shared.now seat.old }
-    requires budget { budget ≤ (T.rules shared.now.truth).most }
+    requires scale { IsScale (T.rules shared.now.truth).g (T.rules shared.now.truth).grain scale.now }
+    requires column { IsPlaced (T.rules shared.now.truth) column.now.budget column.now.x column.now.bottom }
     requires row { length row.old ≡ (T.rules shared.now.truth).grain + 1 }
+    requires down { down ≤ (T.rules shared.now.truth).grain }
     ensures of { IsOf shared.now seat.new }
-    ensures row { IsColumn (T.rules shared.now.truth) budget x.now row.new }
+    ensures row { IsLowered (T.rules shared.now.truth) column.now.budget column.now.x down row.new }
     ensures still { StillSees seat.old.view seat.new.view }
 {
-    if !read_column(shared, seat, budget, x, row) {
-        fill_column(shared, seat, budget, x, row);
+    if read_from(shared, seat, column, down, row) {
+        spread(row, down);
+    } else {
+        fill(shared, seat, scale, column, row);
+        move_up(row, down);
     }
+}
+
+// Fills a column.
+#[cycle(columns)]
+fn fill<T: Bound>(
+    shared: &Shared<T>,
+    seat: &mut Seat<T>,
+    scale: &Scale,
+    column: &Column,
+    row: &mut [u32],
+)
+    requires of { IsOf shared.now seat.old }
+    requires scale { IsScale (T.rules shared.now.truth).g (T.rules shared.now.truth).grain scale.now }
+    requires column { IsPlaced (T.rules shared.now.truth) column.now.budget column.now.x column.now.bottom }
+    requires row { length row.old ≡ (T.rules shared.now.truth).grain + 1 }
+    ensures of { IsOf shared.now seat.new }
+    ensures row { IsColumn (T.rules shared.now.truth) column.now.budget column.now.x row.new }
+    ensures seen { SeesBuckets ((T.rules shared.now.truth).grain + 1) (T.rules shared.now.truth) column.now.budget column.now.x seat.new.view }
+    ensures still { StillSees seat.old.view seat.new.view }
+{
+    let mut after = [0u32; MOST_BUCKETS];
+    let length = row.len();
+    fill_by(shared, seat, scale, column, &mut after[..length], row);
+}
+
+// The same, by a row for the columns after each move.
+#[cycle(columns)]
+fn fill_by<T: Bound>(
+    shared: &Shared<T>,
+    seat: &mut Seat<T>,
+    scale: &Scale,
+    column: &Column,
+    after: &mut [u32],
+    row: &mut [u32],
+)
+    requires of { IsOf shared.now seat.old }
+    requires scale { IsScale (T.rules shared.now.truth).g (T.rules shared.now.truth).grain scale.now }
+    requires column { IsPlaced (T.rules shared.now.truth) column.now.budget column.now.x column.now.bottom }
+    requires after { length after.old ≡ (T.rules shared.now.truth).grain + 1 }
+    requires row { length row.old ≡ (T.rules shared.now.truth).grain + 1 }
+    ensures of { IsOf shared.now seat.new }
+    ensures row { IsColumn (T.rules shared.now.truth) column.now.budget column.now.x row.new }
+    ensures seen { SeesBuckets ((T.rules shared.now.truth).grain + 1) (T.rules shared.now.truth) column.now.budget column.now.x seat.new.view }
+    ensures still { StillSees seat.old.view seat.new.view }
+{
+    let truth = shared.truth();
+    begin(row);
+    for number in 0..Action::COUNT {
+        if let Some(action) = Action::from_number(number) {
+            take_in(shared, seat, &truth, scale, column, action, after, row);
+        }
+    }
+    put_column(shared, seat, column, row);
 }
 
 /// Fills the column of a budget and the effects of `x`: for each bucket the number in `row`, which has one more than
 /// the grain, becomes 0 where no plan does all the progress, else 1 + the optimum. The budget is at most the table's
 /// greatest. The seat has then seen the indices of the column.
-#[cycle(columns)]
 pub fn fill_column<T: Bound>(
     shared: &Shared<T>,
     seat: &mut Seat<T>,
@@ -165,11 +214,8 @@ pub fn fill_column<T: Bound>(
     ensures seen { SeesBuckets ((T.rules shared.now.truth).grain + 1) (T.rules shared.now.truth) budget x.now seat.new.view }
     ensures still { StillSees seat.old.view seat.new.view }
 {
-    begin(row);
-    for number in 0..ACTIONS {
-        if let Some(action) = Action::from_number(number) {
-            take_in(shared, seat, budget, x, action, row);
-        }
-    }
-    put_column(shared, seat, budget, x, row);
+    let truth = shared.truth();
+    let scale = Scale::new(truth.settings(), truth.grain());
+    let column = column_of(&truth, budget, x);
+    fill(shared, seat, &scale, &column, row);
 }

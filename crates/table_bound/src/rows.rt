@@ -1,20 +1,10 @@
 // Rows of numbers, where 0 stands for no list and 1 + v for the optimum v.
-ghost use Rattle.std.specs.Prelude.{◌≡◌, ℕ, ◌+◌, ◌-◌, ◌<◌, ◌^◌, length, slice_index, ◌==◌, if◌then◌else◌};
+ghost use Rattle.std.specs.Prelude.{◌≡◌, ℕ, ◌+◌, ◌-◌, ◌<◌, ◌^◌, length, slice_index, max, ◌==◌, if◌then◌else◌};
 ghost use Rattle.race_core.specs.declared.entry.Entry.{Entry};
-ghost use Rattle.relaxed_moves.specs.Moves.{AreRelaxed};
+ghost use Rattle.relaxed_moves.specs.Columns.{coded};
 ghost use Rattle.table_bound.specs.Bounds.{entry_by};
-ghost use Rattle.table_bound.specs.Columns.{coded, at_bucket};
 
 use race_core::Entry;
-use relaxed_moves::Relaxed;
-
-// The relaxed state of a bucket, with the effects of another.
-pub(crate) fn at_bucket(x: &Relaxed, bucket: u32) -> Relaxed
-    ensures value { result ≡ at_bucket x.now bucket }
-    ensures bounds { AreRelaxed result }
-{
-    Relaxed { bucket, ..*x }
-}
 
 // The optimum that an entry says.
 pub(crate) fn optimum_in(entry: Entry) -> Option<u32>
@@ -72,5 +62,15 @@ pub(crate) fn move_up(row: &mut [u32], down: usize)
 {
     for bucket in (0..row.len()).rev() {
         row[bucket] = row[bucket.saturating_sub(down)];
+    }
+}
+
+// Gives the number at a place to each place below it.
+pub(crate) fn spread(row: &mut [u32], place: usize)
+    requires { place < length row.old }
+    ensures { (bucket : ℕ) → bucket < length row.old → slice_index row.new bucket ≡ slice_index row.old (max bucket place) }
+{
+    for below in 0..place {
+        row[below] = row[place];
     }
 }

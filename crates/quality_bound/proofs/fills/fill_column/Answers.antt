@@ -1,4 +1,4 @@
-use Rattle.std.proofs.Common.{◌≡◌, ap, ◌∙◌}
+use Rattle.std.proofs.Common.{ap, ◌∙◌}
 use Rattle.relaxed_moves.specs.Places.{state_at}
 use Rattle.quality_bound.specs.declared.truth.QualityTruth.{QualityTruth}
 use Rattle.quality_bound.specs.Truths.{quality_rules}

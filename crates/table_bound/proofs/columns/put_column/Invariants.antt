@@ -7,5 +7,5 @@ abbrev pub invariant-loop-bucket : goal.invariant-loop-bucket
 invariant-loop-bucket g l = record {
   of : IsOf l.shared l.seat;
   still : StillSees l.fn.seat.view l.seat.view;
-  seen : SeesBuckets l.bucket (g.T.Bound.rules l.shared.truth) l.budget l.x l.seat.view;
+  seen : SeesBuckets l.bucket (g.T.Bound.rules l.shared.truth) l.column.budget l.column.x l.seat.view;
 }

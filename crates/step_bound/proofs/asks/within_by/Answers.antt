@@ -1,9 +1,9 @@
-use Rattle.std.proofs.Common.{arith, ◌≡◌, ◌≤◌, ap, ◌∙◌}
+use Rattle.std.proofs.Common.{arith, ◌≤◌, ap, ◌∙◌}
 use Rattle.craft_settings.specs.Rules.{cap_of}
 use Rattle.relaxed_moves.specs.Places.{most_moves}
 use Rattle.step_bound.specs.declared.truth.StepTruth.{StepTruth}
 use Rattle.step_bound.proofs.Limited.{within-is, within-more}
-use Rattle.step_bound.proofs.asks.within.Goals as goal
+use Rattle.step_bound.proofs.asks.within_by.Goals as goal
 
 pub returns-then-j-gt-MOST_MOVES-clause-value : goal.returns-then-j-gt-MOST_MOVES-clause-value
 returns-then-j-gt-MOST_MOVES-clause-value c =
