@@ -1,11 +1,11 @@
 -- The limits along a macro.
-use Rattle.std.proofs.Common.{◌≡◌, ◌≢◌, ◌<◌, ◌≤◌, ◌+◌, ◌++◌, ◌∷◌, ◌∙◌, [], zero, suc, ℕ, Bool, List, Option, Some, None, true, false, refl, sym, ap, subst, arith, take, length, slice_get, get_or, nat_lt, true≢false, inl, inr, ◌⊎◌, ◌||◌, length-append}
+use Rattle.std.proofs.Common.{◌≡◌, ◌<◌, ◌≤◌, ◌+◌, ◌++◌, ◌∷◌, ◌∙◌, [], zero, suc, ℕ, Bool, List, Option, Some, true, false, refl, sym, ap, subst, arith, take, length, slice_get, get_or, nat_lt, true≢false, ◌||◌}
 use Rattle.std.proofs.lemmas.List.{take_all}
 use Rattle.action_table.specs.declared.action.Action.{Action}
 use Rattle.action_table.specs.declared.action.Action.TheVariants.{BasicSynthesis}
 use Rattle.craft_state.specs.Craft.{StateFields}
 use Rattle.craft_settings.specs.Ranges.{SettingsFields}
-use Rattle.step_rules.specs.Legality.{start_of, is_legal, is_complete, is_over}
+use Rattle.step_rules.specs.Legality.{start_of, is_complete, is_over}
 use Rattle.step_rules.specs.Macro.{Completes, counted}
 use Rattle.step_rules.specs.Run.{run_of}
 use Rattle.step_rules.proofs.LegalFacts.{legal_facts}

@@ -3,3 +3,4 @@ pub mod Holes
 pub mod Limits
 pub mod Lines
 pub mod Report
+pub mod Sample

@@ -9,7 +9,7 @@ use Rattle.step_rules.specs.Run.{run_of}
 use Rattle.relaxed_moves.specs.Budget.{potential_of, start_potential_of}
 use Rattle.relaxed_moves.specs.Optimum.{limit_of}
 use Rattle.replay_report.specs.declared.style.Report.{Report}
-use Rattle.replay_report.specs.declared.style.Report.TheVariants.{Plain, Limits}
+use Rattle.replay_report.specs.declared.style.Report.TheVariants.{Plain, Limits, Levels}
 
 -- the state has a limit, and no greater potential than the start
 pub record IsLimited (g : SettingsFields) (grain : ℕ) (s : StateFields) : Type 0 where
@@ -30,3 +30,4 @@ pub record AreLimits (g : SettingsFields) (grain : ℕ) (m : List Action) (limit
 abbrev pub AreLimitsFor : SettingsFields → ℕ → Report → List Action → List ℕ → Type 0
 AreLimitsFor g grain Plain m limits = ⊤
 AreLimitsFor g grain Limits m limits = AreLimits g grain m limits
+AreLimitsFor g grain Levels m limits = ⊤

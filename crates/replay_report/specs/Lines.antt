@@ -1,5 +1,5 @@
 -- The lines that are written for a macro.
-use Rattle.std.specs.Prelude.{ℕ, List, [], ◌∷◌, ◌++◌, Option, Some, None, codes, length}
+use Rattle.std.specs.Prelude.{ℕ, List, [], ◌∷◌, ◌++◌, Option, Some, None, codes, length, sum}
 use Rattle.std.specs.List.{concat}
 use Rattle.std.specs.Fmt.{decimal}
 use Rattle.action_table.specs.declared.action.Action.{Action}
@@ -18,6 +18,10 @@ numbers_line steps seconds progress quality most =
 abbrev pub head_of : SettingsFields → List Action → StateFields → List ℕ
 head_of g m last = numbers_line (length m) (seconds_of g m) g.progress last.quality g.quality
 
+-- the line of how many prefixes the levels kept together
+abbrev pub kept_line : List ℕ → List ℕ
+kept_line counts = concat (codes "kept " ∷ decimal (sum counts) ∷ codes "\n" ∷ [])
+
 -- the line between the macro blocks and the table
 abbrev pub replay_line : List ℕ
 replay_line = codes "replay\n"
@@ -35,3 +39,7 @@ limit_column (Some limit) = right 7 limit
 -- one line of the table
 abbrev pub table_row : ℕ → Action → StateFields → Option ℕ → List ℕ
 table_row number action after limit = columns_of number action after ++ (limit_column limit ++ codes "\n")
+
+-- the line of how many prefixes a level kept
+abbrev pub level_line : ℕ × ℕ → List ℕ
+level_line (level, count) = concat (codes "level " ∷ decimal level ∷ codes " " ∷ decimal count ∷ codes "\n" ∷ [])

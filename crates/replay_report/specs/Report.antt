@@ -8,9 +8,9 @@ use Rattle.craft_settings.specs.Ranges.{SettingsFields}
 use Rattle.step_rules.specs.Legality.{start_of}
 use Rattle.step_rules.specs.Run.{run_of}
 use Rattle.macro_text.specs.Blocks.{blocks_of}
-use Rattle.replay_report.specs.Lines.{head_of, replay_line, table_row}
+use Rattle.replay_report.specs.Lines.{head_of, kept_line, level_line, replay_line, table_row}
 use Rattle.replay_report.specs.declared.style.Report.{Report}
-use Rattle.replay_report.specs.declared.style.Report.TheVariants.{Plain, Limits}
+use Rattle.replay_report.specs.declared.style.Report.TheVariants.{Plain, Limits, Levels}
 
 -- what is written of the state after some actions, and nothing where they don't run
 abbrev pub text_after : SettingsFields → List Action → (StateFields → List ℕ) → List ℕ
@@ -24,6 +24,7 @@ first_line g m = text_after g m (head_of g m)
 abbrev pub shown : Report → List ℕ → ℕ → Option ℕ
 shown Plain limits place = None
 shown Limits limits place = slice_get limits place
+shown Levels limits place = None
 
 -- the line of the action at a place: its number is one more, and the state is the one after as many actions
 abbrev pub step_line : SettingsFields → Report → List ℕ → List Action → ℕ × Action → List ℕ
@@ -34,10 +35,21 @@ step_line g style limits m (place, action) =
 abbrev pub table_of : SettingsFields → Report → List ℕ → List Action → List ℕ
 table_of g style limits m = flat_map (step_line g style limits m) (enumerate_from 0 m)
 
+-- a line for each level, from 0
+abbrev pub levels_of : List ℕ → List ℕ
+levels_of counts = flat_map level_line (enumerate_from 0 counts)
+
+-- the lines of the levels, in the style that tells them
+abbrev pub levels_shown : Report → List ℕ → List ℕ
+levels_shown Plain counts = []
+levels_shown Limits counts = []
+levels_shown Levels counts = levels_of counts
+
 -- the parts of the text, in order
-abbrev pub parts_of : SettingsFields → Report → List ℕ → List Action → List (List ℕ)
-parts_of g style limits m = first_line g m ∷ blocks_of m ∷ replay_line ∷ table_of g style limits m ∷ []
+abbrev pub parts_of : SettingsFields → Report → (counts limits : List ℕ) → List Action → List (List ℕ)
+parts_of g style counts limits m =
+    first_line g m ∷ kept_line counts ∷ blocks_of m ∷ replay_line ∷ table_of g style limits m ∷ levels_shown style counts ∷ []
 
 -- the whole text
-abbrev pub report_of : SettingsFields → Report → List ℕ → List Action → List ℕ
-report_of g style limits m = concat (parts_of g style limits m)
+abbrev pub report_of : SettingsFields → Report → (counts limits : List ℕ) → List Action → List ℕ
+report_of g style counts limits m = concat (parts_of g style counts limits m)

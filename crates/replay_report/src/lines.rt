@@ -1,4 +1,5 @@
 ghost use Rattle.std.specs.Prelude.{◌≡◌, ◌≤◌, ◌++◌, None, codes, length, string_bytes, IfOk, OnOk};
+ghost use Rattle.step_rules.specs.Measure.{most_steps};
 ghost use Rattle.replay_report.specs.Holes.{column_holes};
 ghost use Rattle.replay_report.specs.Lines.{columns_of, head_of, limit_column, numbers_line, table_row};
 
@@ -17,7 +18,7 @@ pub fn head(
     actions: &[Action],
     last: &State,
 ) -> Result<Vec<u8>, WantMemory>
-    requires { length actions.now ≤ 272 }
+    requires { length actions.now ≤ most_steps }
     ensures { IfOk result (λ text. text.items ≡ head_of g.now actions.now last.now) }
 {
     let line = numbers(
@@ -55,7 +56,7 @@ pub fn table_line(
     after: &State,
 ) -> Result<Vec<u8>, WantMemory>
     requires low { 1 ≤ number }
-    requires high { number ≤ 272 }
+    requires high { number ≤ most_steps }
     ensures { IfOk result (λ text. text.items ≡ table_row number action after.now None) }
 {
     let mut line = String::new(alloc);

@@ -9,6 +9,8 @@ pub enum Report {
     Plain,
     /// The same, and after each step the most quality that a macro can still reach.
     Limits,
+    /// The plain text, and after it how many prefixes each level of the search kept.
+    Levels,
 }
 
 // The limit that the line of a place shows.
@@ -17,7 +19,7 @@ pub(crate) fn shown(style: &Report, limits: &[u32], place: usize) -> Option<u32>
     ensures { result ≡ shown style.now limits.now place }
 {
     match style {
-        Report::Plain => None,
+        Report::Plain | Report::Levels => None,
         Report::Limits => Some(limits[place]),
     }
 }

@@ -1,6 +1,7 @@
 ghost use Rattle.std.specs.Prelude.{◌≡◌, ◌≤◌, length, string_bytes, IfOk};
 ghost use Rattle.step_rules.specs.Legality.{start_of};
 ghost use Rattle.step_rules.specs.Macro.{Completes};
+ghost use Rattle.step_rules.specs.Measure.{most_steps};
 ghost use Rattle.replay_report.specs.Report.{table_of};
 
 use crate::lines::push_row;
@@ -19,7 +20,7 @@ pub(crate) fn table_text(
     style: &Report,
 ) -> Result<String, AllocError>
     requires complete { Completes g.now (start_of g.now) actions.now }
-    requires short { length actions.now ≤ 272 }
+    requires short { length actions.now ≤ most_steps }
     requires limits { style.now ≡ Report.Limits → length limits.now ≡ length actions.now }
     ensures { IfOk result (λ text. string_bytes text ≡ table_of g.now style.now limits.now actions.now) }
 {

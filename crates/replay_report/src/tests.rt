@@ -1,63 +1,10 @@
+ghost use Rattle.std.specs.Prelude.{IfOk};
+ghost use Rattle.step_rules.specs.Legality.{start_of};
+ghost use Rattle.step_rules.specs.Macro.{Completes};
+
 use super::*;
+use craft_state::State;
 use std::test::Fail;
-
-const SYNTHESIS: &str = "steps 1 seconds 3 progress 100/100 quality 0/100
-macro 1
-/ac \"Basic Synthesis\" <wait.3>
-replay
-  1 Basic Synthesis         100      0   0    0
-";
-
-const TOUCH: &str = "steps 2 seconds 6 progress 100/100 quality 100/500
-macro 1
-/ac \"Basic Touch\" <wait.3>
-/ac \"Basic Synthesis\" <wait.3>
-replay
-  1 Basic Touch               0    100  10    0
-  2 Basic Synthesis         100    100   0    0
-";
-
-const TWO_TOUCHES: &str = "steps 3 seconds 9 progress 100/100 quality 210/500
-macro 1
-/ac \"Basic Touch\" <wait.3>
-/ac \"Basic Touch\" <wait.3>
-/ac \"Basic Synthesis\" <wait.3>
-replay
-  1 Basic Touch               0    100  20   18
-  2 Basic Touch               0    210  10    0
-  3 Basic Synthesis         100    210   0    0
-";
-
-const VENERATION: &str = "steps 2 seconds 5 progress 150/150 quality 0/0
-macro 1
-/ac \"Veneration\" <wait.2>
-/ac \"Basic Synthesis\" <wait.3>
-replay
-  1 Veneration                0      0  20    0
-  2 Basic Synthesis         150      0  10    0
-";
-
-const INNOVATION: &str = "steps 4 seconds 10 progress 150/150 quality 150/500
-macro 1
-/ac \"Veneration\" <wait.2>
-/ac \"Innovation\" <wait.2>
-/ac \"Basic Touch\" <wait.3>
-/ac \"Basic Synthesis\" <wait.3>
-replay
-  1 Veneration                0      0  20   36
-  2 Innovation                0      0  20   18
-  3 Basic Touch               0    150  10    0
-  4 Basic Synthesis         150    150   0    0
-";
-
-const PERFECTION: &str = "steps 2 seconds 6 progress 360/360 quality 0/0
-macro 1
-/ac \"Trained Perfection\" <wait.3>
-/ac \"Groundwork\" <wait.3>
-replay
-  1 Trained Perfection        0      0  10   18
-  2 Groundwork              360      0  10    0
-";
 
 const EASY: Settings = Settings {
     level: 1,
@@ -81,7 +28,207 @@ const ONE_TOUCH: Settings = Settings {
     ..EASY
 };
 
-const INNOVATION_LIMITS: &str = "steps 4 seconds 10 progress 150/150 quality 150/500
+const VENERATION: Settings = Settings {
+    level: 15,
+    progress: 150,
+    quality: 0,
+    ..ONE_TOUCH
+};
+
+const INNOVATION: Settings = Settings {
+    level: 26,
+    cp: 54,
+    progress: 150,
+    ..ONE_TOUCH
+};
+
+const PERFECTION: Settings = Settings {
+    level: 100,
+    durability: 10,
+    progress: 360,
+    quality: 0,
+    ..ONE_TOUCH
+};
+
+const GROUNDWORK: Settings = Settings {
+    level: 86,
+    progress: 180,
+    forbidden: 33560576,
+    ..PERFECTION
+};
+
+const ORDINARY: Settings = Settings {
+    level: 50,
+    cp: 180,
+    durability: 40,
+    progress: 150,
+    quality: 400,
+    base_progress: 50,
+    base_quality: 101,
+    ..EASY
+};
+
+const SAMPLE: Settings = Settings {
+    level: 25,
+    cp: 87,
+    durability: 35,
+    progress: 128,
+    quality: 374,
+    base_progress: 50,
+    base_quality: 73,
+    ..EASY
+};
+
+const INNOVATING: [Action; 4] = [
+    Action::Veneration,
+    Action::Innovation,
+    Action::BasicTouch,
+    Action::BasicSynthesis,
+];
+
+const STRIDING: [Action; 6] = [
+    Action::BasicSynthesis,
+    Action::Veneration,
+    Action::StandardTouch,
+    Action::GreatStrides,
+    Action::StandardTouch,
+    Action::BasicSynthesis,
+];
+
+const TOUCHES_FIRST: [Action; 6] = [
+    Action::GreatStrides,
+    Action::BasicTouch,
+    Action::StandardTouch,
+    Action::Veneration,
+    Action::BasicSynthesis,
+    Action::BasicSynthesis,
+];
+
+// A macro that completes a craft, and the text of a style with these counts and limits.
+#[derive(Clone, Copy)]
+struct Case {
+    g: Settings,
+    actions: &'static [Action],
+    counts: &'static [u64],
+    limits: &'static [u32],
+    style: Report,
+    text: &'static str,
+}
+
+const SYNTHESIS: Case = Case {
+    g: EASY,
+    actions: &[Action::BasicSynthesis],
+    counts: &[1],
+    limits: &[],
+    style: Report::Plain,
+    text: "steps 1 seconds 3 progress 100/100 quality 0/100
+kept 1
+macro 1
+/ac \"Basic Synthesis\" <wait.3>
+replay
+  1 Basic Synthesis         100      0   0    0
+",
+};
+
+const CASES: [Case; 14] = [
+    SYNTHESIS,
+    Case {
+        g: ONE_TOUCH,
+        actions: &[Action::BasicTouch, Action::BasicSynthesis],
+        counts: &[1, 1],
+        text: "steps 2 seconds 6 progress 100/100 quality 100/500
+kept 2
+macro 1
+/ac \"Basic Touch\" <wait.3>
+/ac \"Basic Synthesis\" <wait.3>
+replay
+  1 Basic Touch               0    100  10    0
+  2 Basic Synthesis         100    100   0    0
+",
+        ..SYNTHESIS
+    },
+    Case {
+        g: Settings {
+            durability: 10,
+            ..ONE_TOUCH
+        },
+        text: "steps 1 seconds 3 progress 100/100 quality 0/500
+kept 1
+macro 1
+/ac \"Basic Synthesis\" <wait.3>
+replay
+  1 Basic Synthesis         100      0   0   18
+",
+        ..SYNTHESIS
+    },
+    Case {
+        g: Settings {
+            level: 11,
+            cp: 36,
+            durability: 30,
+            ..ONE_TOUCH
+        },
+        actions: &[
+            Action::BasicTouch,
+            Action::BasicTouch,
+            Action::BasicSynthesis,
+        ],
+        counts: &[1, 1, 1],
+        text: "steps 3 seconds 9 progress 100/100 quality 210/500
+kept 3
+macro 1
+/ac \"Basic Touch\" <wait.3>
+/ac \"Basic Touch\" <wait.3>
+/ac \"Basic Synthesis\" <wait.3>
+replay
+  1 Basic Touch               0    100  20   18
+  2 Basic Touch               0    210  10    0
+  3 Basic Synthesis         100    210   0    0
+",
+        ..SYNTHESIS
+    },
+    Case {
+        g: Settings {
+            level: 7,
+            cp: 106,
+            ..ONE_TOUCH
+        },
+        actions: &[Action::BasicTouch, Action::BasicSynthesis],
+        counts: &[1, 1],
+        text: "steps 2 seconds 6 progress 100/100 quality 100/500
+kept 2
+macro 1
+/ac \"Basic Touch\" <wait.3>
+/ac \"Basic Synthesis\" <wait.3>
+replay
+  1 Basic Touch               0    100  10   88
+  2 Basic Synthesis         100    100   0   88
+",
+        ..SYNTHESIS
+    },
+    Case {
+        g: VENERATION,
+        actions: &[Action::Veneration, Action::BasicSynthesis],
+        counts: &[1, 2],
+        text: "steps 2 seconds 5 progress 150/150 quality 0/0
+kept 3
+macro 1
+/ac \"Veneration\" <wait.2>
+/ac \"Basic Synthesis\" <wait.3>
+replay
+  1 Veneration                0      0  20    0
+  2 Basic Synthesis         150      0  10    0
+",
+        ..SYNTHESIS
+    },
+    Case {
+        g: INNOVATION,
+        actions: &INNOVATING,
+        counts: &[1, 4, 9, 3],
+        limits: &[250, 187, 150, 150],
+        style: Report::Limits,
+        text: "steps 4 seconds 10 progress 150/150 quality 150/500
+kept 17
 macro 1
 /ac \"Veneration\" <wait.2>
 /ac \"Innovation\" <wait.2>
@@ -92,86 +239,177 @@ replay
   2 Innovation                0      0  20   18    187
   3 Basic Touch               0    150  10    0    150
   4 Basic Synthesis         150    150   0    0    150
-";
+",
+    },
+    Case {
+        g: INNOVATION,
+        actions: &INNOVATING,
+        counts: &[1, 4, 9, 3],
+        style: Report::Levels,
+        text: "steps 4 seconds 10 progress 150/150 quality 150/500
+kept 17
+macro 1
+/ac \"Veneration\" <wait.2>
+/ac \"Innovation\" <wait.2>
+/ac \"Basic Touch\" <wait.3>
+/ac \"Basic Synthesis\" <wait.3>
+replay
+  1 Veneration                0      0  20   36
+  2 Innovation                0      0  20   18
+  3 Basic Touch               0    150  10    0
+  4 Basic Synthesis         150    150   0    0
+level 0 1
+level 1 4
+level 2 9
+level 3 3
+",
+        ..SYNTHESIS
+    },
+    Case {
+        g: PERFECTION,
+        actions: &[Action::TrainedPerfection, Action::Groundwork],
+        counts: &[1, 5],
+        text: "steps 2 seconds 6 progress 360/360 quality 0/0
+kept 6
+macro 1
+/ac \"Trained Perfection\" <wait.3>
+/ac \"Groundwork\" <wait.3>
+replay
+  1 Trained Perfection        0      0  10   18
+  2 Groundwork              360      0  10    0
+",
+        ..SYNTHESIS
+    },
+    Case {
+        g: GROUNDWORK,
+        actions: &[Action::Groundwork],
+        text: "steps 1 seconds 3 progress 180/180 quality 0/0
+kept 1
+macro 1
+/ac \"Groundwork\" <wait.3>
+replay
+  1 Groundwork              180      0   0    0
+",
+        ..SYNTHESIS
+    },
+    Case {
+        g: Settings {
+            forbidden: 33554432,
+            ..GROUNDWORK
+        },
+        actions: &[Action::MuscleMemory],
+        text: "steps 1 seconds 3 progress 180/180 quality 0/0
+kept 1
+macro 1
+/ac \"Muscle Memory\" <wait.3>
+replay
+  1 Muscle Memory           180      0   0   12
+",
+        ..SYNTHESIS
+    },
+    Case {
+        g: ORDINARY,
+        actions: &STRIDING,
+        counts: &[1, 4, 14, 33, 43, 8],
+        limits: &[400, 400, 400, 400, 400, 400],
+        style: Report::Limits,
+        text: "steps 6 seconds 16 progress 150/150 quality 400/400
+kept 103
+macro 1
+/ac \"Basic Synthesis\" <wait.3>
+/ac \"Veneration\" <wait.2>
+/ac \"Standard Touch\" <wait.3>
+/ac \"Great Strides\" <wait.2>
+/ac \"Standard Touch\" <wait.3>
+/ac \"Basic Synthesis\" <wait.3>
+replay
+  1 Basic Synthesis          60      0  30  180    400
+  2 Veneration               60      0  30  162    400
+  3 Standard Touch           60    126  20  130    400
+  4 Great Strides            60    126  20   98    400
+  5 Standard Touch           60    400  10   66    400
+  6 Basic Synthesis         150    400   0   66    400
+",
+    },
+    Case {
+        g: ORDINARY,
+        actions: &STRIDING,
+        counts: &[1, 4, 14, 33, 43, 8],
+        style: Report::Levels,
+        text: "steps 6 seconds 16 progress 150/150 quality 400/400
+kept 103
+macro 1
+/ac \"Basic Synthesis\" <wait.3>
+/ac \"Veneration\" <wait.2>
+/ac \"Standard Touch\" <wait.3>
+/ac \"Great Strides\" <wait.2>
+/ac \"Standard Touch\" <wait.3>
+/ac \"Basic Synthesis\" <wait.3>
+replay
+  1 Basic Synthesis          60      0  30  180
+  2 Veneration               60      0  30  162
+  3 Standard Touch           60    126  20  130
+  4 Great Strides            60    126  20   98
+  5 Standard Touch           60    400  10   66
+  6 Basic Synthesis         150    400   0   66
+level 0 1
+level 1 4
+level 2 14
+level 3 33
+level 4 43
+level 5 8
+",
+        ..SYNTHESIS
+    },
+    Case {
+        counts: &[18446744073709551615, 18446744073709551615],
+        style: Report::Levels,
+        text: "steps 1 seconds 3 progress 100/100 quality 0/100
+kept 36893488147419103230
+macro 1
+/ac \"Basic Synthesis\" <wait.3>
+replay
+  1 Basic Synthesis         100      0   0    0
+level 0 18446744073709551615
+level 1 18446744073709551615
+",
+        ..SYNTHESIS
+    },
+];
 
-fn is_reported(
-    alloc: Global,
-    g: &Settings,
-    actions: &[Action],
-    expected: &str,
-) -> Result<bool, Fail> {
+// The last state, where the actions complete the craft.
+fn completed(g: &Settings, actions: &[Action]) -> Result<State, Fail>
+    ensures { IfOk result (λ last. Completes g.now (start_of g.now) actions.now) }
+{
     let last = replay(g, &start(g), actions).ok().ok_or("stopped")?;
-    if last.progress < g.progress {
-        return Ok(false);
+    if last.progress == g.progress {
+        Ok(last)
+    } else {
+        Err(Fail::from("not complete"))
     }
-    Ok(report(alloc, g, actions, &[], &Report::Plain)?.as_slice() == expected.as_bytes())
 }
 
-fn is_reported_with(
-    alloc: Global,
-    g: &Settings,
-    actions: &[Action],
-    limits: &[u32],
-    expected: &str,
-) -> Result<bool, Fail> {
-    let last = replay(g, &start(g), actions).ok().ok_or("stopped")?;
-    if last.progress < g.progress || limits.len() != actions.len() {
+fn is_reported(alloc: Global, case: &Case) -> Result<bool, Fail> {
+    completed(&case.g, case.actions)?;
+    if case.style == Report::Limits && case.limits.len() != case.actions.len() {
         return Ok(false);
     }
-    Ok(report(alloc, g, actions, limits, &Report::Limits)?.as_slice() == expected.as_bytes())
+    let text = report(
+        alloc,
+        &case.g,
+        case.actions,
+        case.counts,
+        case.limits,
+        &case.style,
+    )?;
+    Ok(text.as_slice() == case.text.as_bytes())
 }
 
 #[test]
 fn reports(rt: HostRuntime) -> Result<(), Fail> {
-    let alloc = rt.alloc();
-    assert!(rt; is_reported(alloc, &EASY, &[Action::BasicSynthesis], SYNTHESIS)?);
-    let g = ONE_TOUCH;
-    let actions = [Action::BasicTouch, Action::BasicSynthesis];
-    assert!(rt; is_reported(alloc, &g, &actions, TOUCH)?);
-    let g = Settings {
-        level: 11,
-        cp: 36,
-        durability: 30,
-        ..ONE_TOUCH
-    };
-    let actions = [
-        Action::BasicTouch,
-        Action::BasicTouch,
-        Action::BasicSynthesis,
-    ];
-    assert!(rt; is_reported(alloc, &g, &actions, TWO_TOUCHES)?);
-    let g = Settings {
-        level: 15,
-        progress: 150,
-        quality: 0,
-        ..ONE_TOUCH
-    };
-    let actions = [Action::Veneration, Action::BasicSynthesis];
-    assert!(rt; is_reported(alloc, &g, &actions, VENERATION)?);
-    let g = Settings {
-        level: 26,
-        cp: 54,
-        progress: 150,
-        ..ONE_TOUCH
-    };
-    let actions = [
-        Action::Veneration,
-        Action::Innovation,
-        Action::BasicTouch,
-        Action::BasicSynthesis,
-    ];
-    assert!(rt; is_reported(alloc, &g, &actions, INNOVATION)?);
-    let limits = [250, 187, 150, 150];
-    assert!(rt; is_reported_with(alloc, &g, &actions, &limits, INNOVATION_LIMITS)?);
-    let g = Settings {
-        level: 100,
-        durability: 10,
-        progress: 360,
-        quality: 0,
-        ..ONE_TOUCH
-    };
-    let actions = [Action::TrainedPerfection, Action::Groundwork];
-    assert!(rt; is_reported(alloc, &g, &actions, PERFECTION)?);
+    for case in &CASES {
+        assert!(rt; is_reported(rt.alloc(), case)?, "{}", case.text);
+    }
     Ok(())
 }
 
@@ -188,5 +426,20 @@ fn writes_lines(rt: HostRuntime) -> Result<(), Fail> {
     let first = head(alloc, &g, &actions, &touched)?;
     let expected = b"steps 2 seconds 6 progress 100/100 quality 100/500\n";
     assert!(rt; first.as_slice() == expected.as_slice());
+    Ok(())
+}
+
+#[test]
+fn reports_samples(rt: HostRuntime) -> Result<(), Fail> {
+    let alloc = rt.alloc();
+    completed(&SAMPLE, &TOUCHES_FIRST)?;
+    let text = sample_report(alloc, 1, &SAMPLE, &TOUCHES_FIRST, &[1, 4, 12, 23, 28, 18])?;
+    let expected =
+        b"sample 1 level 25 cp 87 durability 35 progress 128 quality 374 base 50 73\nsteps 6 seconds 16 quality 246/374 kept 86\n";
+    assert!(rt; text.as_slice() == expected.as_slice());
+    let text = sample_none(alloc, 0, &EASY)?;
+    let expected =
+        b"sample 0 level 1 cp 0 durability 10 progress 100 quality 100 base 100 100\nnone\n";
+    assert!(rt; text.as_slice() == expected.as_slice());
     Ok(())
 }
