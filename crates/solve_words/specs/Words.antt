@@ -1,29 +1,17 @@
--- The form of the words after a program's name: a command, and then options that the table of
--- commands gives to it.
-use Rattle.std.specs.Prelude.{◌≡◌, ℕ, List, [], ◌∷◌, Option, Some, None, option_and_then, find, codes}
+-- The form of the words after a program's name: a command, and then what the table of commands
+-- gives to it.
+use Rattle.std.specs.Prelude.{◌≡◌, ◌≤◌, ℕ, List, [], ◌∷◌, Option, Some, None, option_and_then, find, codes, ⊤}
 use Rattle.std.specs.Str.{bytes_eq}
 use Rattle.clap.specs.Matches.{found_of, first_value}
 use Rattle.clap.specs.declared.parser.matches.ArgMatches.{ArgMatches}
 use Rattle.solve_words.specs.Form.{Text, Given, given_in, value_of}
-use Rattle.solve_words.specs.Values.{number_or, report_or, default_workers, default_grain}
+use Rattle.solve_words.specs.Values.{number_or, report_or, sample_number_of, default_workers, default_grain}
+use Rattle.craft_settings.specs.Ranges.{IsFromTo}
+use Rattle.sample_craft.specs.Sample.{most_number}
 use Rattle.replay_report.specs.declared.style.Report.{Report}
 use Rattle.solve_words.specs.declared.words.Command.{Command}
-use Rattle.solve_words.specs.declared.words.Command.TheVariants.{Solve}
+use Rattle.solve_words.specs.declared.words.Command.TheVariants.{Solve, Sample}
 use Rattle.solve_words.specs.declared.words.Words.{Words}
-
--- a command's word, what it asks for, and the names of its options
-pub record CommandRow : Type 0 where
-  pub word : Text
-  pub command : Command
-  pub options : List Text
-
--- the commands
-abbrev pub command_table : List CommandRow
-command_table = record { word = codes "solve"; command = Solve; options = codes "workers" ∷ codes "grain" ∷ codes "report" ∷ [] } ∷ []
-
--- the row of the command that the word names
-abbrev pub row_named : Text → Option CommandRow
-row_named word = find (λ row. bytes_eq word row.word) command_table
 
 abbrev pub words_read : Command → Option ℕ → Option ℕ → Option Report → Option Words
 words_read command (Some w) (Some g) (Some r) = Some (record { command = command; workers = w; grain = g; report = r })
@@ -40,10 +28,35 @@ words_given command given =
 abbrev pub words_with : Command → List Text → List Text → Option Words
 words_with command names words = option_and_then (words_given command) (given_in names words)
 
+-- what the words after `solve` say: options
+abbrev pub after_solve : List Text → Option Words
+after_solve words = words_with Solve (codes "workers" ∷ codes "grain" ∷ codes "report" ∷ []) words
+
+-- what the words after `sample` say: the sample's number, and then options
+abbrev pub after_sample : List Text → Option Words
+after_sample [] = None
+after_sample (number ∷ rest) =
+    option_and_then (λ n. words_with (Sample n) (codes "workers" ∷ codes "grain" ∷ []) rest) (sample_number_of number)
+
+-- the commands, each with what the words after it say
+abbrev pub command_table : List (Text × (List Text → Option Words))
+command_table = (codes "solve", after_solve) ∷ (codes "sample", after_sample) ∷ []
+
 -- what the words say; none where they are not of the form
 abbrev pub words_of : List Text → Option Words
 words_of [] = None
-words_of (first ∷ rest) = option_and_then (λ row. words_with row.command row.options rest) (row_named first)
+words_of (first ∷ rest) = option_and_then (λ row. row.1 rest) (find (λ row. bytes_eq first row.0) command_table)
+
+-- the number of a sample is in its range
+abbrev pub HasSample : Command → Type 0
+HasSample Solve = ⊤
+HasSample (Sample number) = number ≤ most_number
+
+-- the numbers of the words are in their ranges
+pub record AreInRange (words : Words) : Type 0 where
+  pub sample : HasSample words.command
+  pub workers : IsFromTo 1 64 words.workers
+  pub grain : IsFromTo 1 64 words.grain
 
 -- clap found just the options that the words give
 pub record FindsOptions (names words : List Text) (m : ArgMatches) : Type 0 where

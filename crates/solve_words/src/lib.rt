@@ -3,11 +3,10 @@
 
 ghost use Rattle.std.specs.Prelude.{◌≡◌, ◌≢◌, ◌↔◌, IfOk, IfErr, IsErrOf, MatchResult, None, Some, false, map, codes, string_bytes};
 ghost use Rattle.std.specs.List.{list_any};
-ghost use Rattle.craft_settings.specs.Ranges.{IsFromTo};
 ghost use Rattle.clap.specs.Words.{app_of};
 ghost use Rattle.solve_words.specs.Clap.{app};
 ghost use Rattle.solve_words.specs.Form.{given_in, is_stray as stray};
-ghost use Rattle.solve_words.specs.Words.{FindsOptions, words_with, words_of};
+ghost use Rattle.solve_words.specs.Words.{AreInRange, FindsOptions, HasSample, after_sample, words_with, words_of};
 
 mod fault;
 #[cfg(test)]
@@ -21,7 +20,7 @@ pub use fault::WordsFault;
 use fault::fault_for;
 pub use replay_report::Report;
 use std::alloc::Global;
-use values::{is_stray, number_or, report_or};
+use values::{is_stray, number_or, report_or, sample_number};
 pub use words::{Command, Words};
 
 const DEFAULT_WORKERS: u32 = 4;
@@ -29,13 +28,12 @@ const DEFAULT_WORKERS: u32 = 4;
 const DEFAULT_GRAIN: u32 = 16;
 
 /// Reads the words after the program's name: a command and then its options in any order, each at
-/// most once, as `--name value` or `--name=value`. The command is `solve`, with `--workers` and
-/// `--grain` of 1 to 64 and `--report` as `plain` or `limits`. BadWords comes for all other words, and for no
-/// others.
+/// most once, as `--name value` or `--name=value`. The command is `solve`, or `sample` and the sample's number of one
+/// to six digits with no leading 0 unless it is `0`. Both have `--workers` and `--grain` of 1 to 64, and `solve` has
+/// `--report` as `plain`, `limits` or `levels`. BadWords comes for all other words, and for no others.
 pub fn read_words(alloc: Global, words: &[String]) -> Result<Words, WordsFault>
     ensures ok { IfOk result (λ read. words_of (map string_bytes words.now) ≡ Some read) }
-    ensures workers { IfOk result (λ read. IsFromTo 1 64 read.workers) }
-    ensures grain { IfOk result (λ read. IsFromTo 1 64 read.grain) }
+    ensures range { IfOk result AreInRange }
     ensures bad { IsErrOf result WordsFault.BadWords ↔ (words_of (map string_bytes words.now) ≡ None × ¬ IsErrOf result WordsFault.WantMemory) }
 {
     let Some((first, rest)) = words.split_first() else {
@@ -43,9 +41,25 @@ pub fn read_words(alloc: Global, words: &[String]) -> Result<Words, WordsFault>
     };
     if first.as_str() == "solve" {
         with_options(alloc, Command::Solve, &["workers", "grain", "report"], rest)
+    } else if first.as_str() == "sample" {
+        read_sample(alloc, rest)
     } else {
         Err(WordsFault::BadWords)
     }
+}
+
+// The words after `sample`: its number, and then options.
+fn read_sample(alloc: Global, words: &[String]) -> Result<Words, WordsFault>
+    ensures form { MatchResult result (λ read. after_sample (map string_bytes words.now) ≡ Some read) (λ e. e ≡ WordsFault.BadWords → after_sample (map string_bytes words.now) ≡ None) }
+    ensures range { IfOk result AreInRange }
+{
+    let Some((number, rest)) = words.split_first() else {
+        return Err(WordsFault::BadWords);
+    };
+    let Some(number) = sample_number(number.as_str()) else {
+        return Err(WordsFault::BadWords);
+    };
+    with_options(alloc, Command::Sample(number), &["workers", "grain"], rest)
 }
 
 // The command with the options that the words give it, of those with these names.
@@ -55,9 +69,9 @@ fn with_options(
     names: &[&str],
     words: &[String],
 ) -> Result<Words, WordsFault>
+    requires { HasSample command }
     ensures form { MatchResult result (λ read. words_with command (map (λ s. s.now) names.now) (map string_bytes words.now) ≡ Some read) (λ e. e ≡ WordsFault.BadWords → words_with command (map (λ s. s.now) names.now) (map string_bytes words.now) ≡ None) }
-    ensures workers { IfOk result (λ read. IsFromTo 1 64 read.workers) }
-    ensures grain { IfOk result (λ read. IsFromTo 1 64 read.grain) }
+    ensures range { IfOk result AreInRange }
 {
     if has_stray(words) {
         return Err(WordsFault::BadWords);

@@ -1,7 +1,102 @@
 use crate::{Command, Report, Words, WordsFault, read_words};
 use std::alloc::{AllocError, Global};
-use std::process::Abort;
 use std::test::Fail;
+
+const DEFAULT: Words = Words {
+    command: Command::Solve,
+    workers: 4,
+    grain: 16,
+    report: Report::Plain,
+};
+
+// Words of the form, and what they say.
+const ACCEPTED: [(&[&str], Words); 8] = [
+    (&["solve"], DEFAULT),
+    (
+        &["solve", "--workers=64", "--report", "limits"],
+        Words {
+            workers: 64,
+            report: Report::Limits,
+            ..DEFAULT
+        },
+    ),
+    (
+        &[
+            "solve",
+            "--grain",
+            "9",
+            "--report=levels",
+            "--workers",
+            "10",
+        ],
+        Words {
+            workers: 10,
+            grain: 9,
+            report: Report::Levels,
+            ..DEFAULT
+        },
+    ),
+    (&["solve", "--report", "plain"], DEFAULT),
+    (
+        &["sample", "0"],
+        Words {
+            command: Command::Sample(0),
+            ..DEFAULT
+        },
+    ),
+    (
+        &["sample", "7", "--workers", "1"],
+        Words {
+            command: Command::Sample(7),
+            workers: 1,
+            ..DEFAULT
+        },
+    ),
+    (
+        &["sample", "999999", "--grain=64", "--workers=2"],
+        Words {
+            command: Command::Sample(999999),
+            workers: 2,
+            grain: 64,
+            ..DEFAULT
+        },
+    ),
+    (
+        &["sample", "100020"],
+        Words {
+            command: Command::Sample(100020),
+            ..DEFAULT
+        },
+    ),
+];
+
+const REFUSED: [&[&str]; 21] = [
+    &[],
+    &[""],
+    &["Solve"],
+    &["--workers", "2", "solve"],
+    &["solve", "solve"],
+    &["solve", "1"],
+    &["solve", "--"],
+    &["solve", "--help"],
+    &["solve", "-h"],
+    &["solve", "--work", "2"],
+    &["solve", "--grain"],
+    &["solve", "--grain", "1", "2"],
+    &["solve", "--workers", "2", "--workers", "2"],
+    &["solve", "--workers=2", "--workers", "2"],
+    &["solve", "--workers", "--grain", "2"],
+    &["solve", "--report", "level"],
+    &["sample"],
+    &["sample", "1", "--report", "plain"],
+    &["sample", "--workers", "2", "1"],
+    &["sample", "1", "2"],
+    &["sample", "1", "--"],
+];
+
+const NO_COUNTS: [&str; 9] = ["", "0", "65", "04", "-1", "+1", "100", "1 ", "x"];
+
+const NO_SAMPLES: [&str; 9] = ["", "00", "01", "-1", "+1", "1000000", "1 ", "0x1", "1_0"];
 
 fn read(alloc: Global, words: &[&str]) -> Result<Result<Words, WordsFault>, AllocError> {
     let mut all = Vec::new(alloc);
@@ -11,74 +106,29 @@ fn read(alloc: Global, words: &[&str]) -> Result<Result<Words, WordsFault>, Allo
     Ok(read_words(alloc, all.as_slice()))
 }
 
-fn says<R: AllocGlobal + Abort>(
-    rt: &R,
-    words: &[&str],
-    workers: u32,
-    grain: u32,
-    report: Report,
-) -> Result<(), Fail> {
-    let answer = read(rt.alloc(), words)?;
-    let wanted = Words {
-        command: Command::Solve,
-        workers,
-        grain,
-        report,
-    };
-    assert!(rt; answer == Ok(wanted), "{words:?}");
-    Ok(())
-}
-
 #[test]
 fn accepts(rt: HostRuntime) -> Result<(), Fail> {
-    says(&rt, ["solve"].as_slice(), 4, 16, Report::Plain)?;
-    says(
-        &rt,
-        ["solve", "--workers=64", "--report", "limits"].as_slice(),
-        64,
-        16,
-        Report::Limits,
-    )?;
-    says(
-        &rt,
-        ["solve", "--grain", "9", "--report=plain", "--workers", "10"].as_slice(),
-        10,
-        9,
-        Report::Plain,
-    )
-}
-
-fn is_bad<R: AllocGlobal + Abort>(rt: &R, words: &[&str]) -> Result<(), Fail> {
-    let answer = read(rt.alloc(), words)?;
-    assert!(rt; answer == Err(WordsFault::BadWords), "{words:?}");
+    for (words, wanted) in ACCEPTED {
+        assert!(rt; read(rt.alloc(), words)? == Ok(wanted), "{words:?}");
+    }
     Ok(())
 }
 
 #[test]
 fn refuses(rt: HostRuntime) -> Result<(), Fail> {
-    is_bad(&rt, [].as_slice())?;
-    is_bad(&rt, ["sample"].as_slice())?;
-    is_bad(&rt, ["sample", "1", "--report", "plain"].as_slice())?;
-    is_bad(&rt, ["Solve"].as_slice())?;
-    is_bad(&rt, ["solve", "solve"].as_slice())?;
-    is_bad(&rt, ["solve", "--"].as_slice())?;
-    is_bad(&rt, ["solve", "--help"].as_slice())?;
-    is_bad(&rt, ["solve", "-h"].as_slice())?;
-    is_bad(&rt, ["solve", "--work", "2"].as_slice())?;
-    is_bad(&rt, ["solve", "--grain"].as_slice())?;
-    is_bad(&rt, ["solve", "--grain", "1", "2"].as_slice())
-}
-
-#[test]
-fn refuses_values(rt: HostRuntime) -> Result<(), Fail> {
-    is_bad(
-        &rt,
-        ["solve", "--workers", "2", "--workers", "2"].as_slice(),
-    )?;
-    is_bad(&rt, ["solve", "--workers", "--grain", "2"].as_slice())?;
-    is_bad(&rt, ["solve", "--report", "levels"].as_slice())?;
-    for value in ["", "0", "65", "04", "-1", "+1", "100", "1 ", "x"] {
-        is_bad(&rt, ["solve", "--workers", value].as_slice())?;
+    for words in REFUSED {
+        assert!(rt;
+            read(rt.alloc(), words)? == Err(WordsFault::BadWords),
+            "{words:?}"
+        );
+    }
+    for count in NO_COUNTS {
+        let answer = read(rt.alloc(), &["solve", "--workers", count])?;
+        assert!(rt; answer == Err(WordsFault::BadWords), "{count}");
+    }
+    for number in NO_SAMPLES {
+        let answer = read(rt.alloc(), &["sample", number])?;
+        assert!(rt; answer == Err(WordsFault::BadWords), "{number}");
     }
     Ok(())
 }

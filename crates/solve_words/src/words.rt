@@ -5,6 +5,8 @@ use replay_report::Report;
 pub enum Command {
     /// Find the best macro for the settings that are read.
     Solve,
+    /// Find the best macro for the sample craft with this number, at most 999999.
+    Sample(u32),
 }
 
 /// What the words after the program's name say, with the default of each option that isn't given.
