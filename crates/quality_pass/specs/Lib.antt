@@ -1,0 +1,4 @@
+pub mod Answer
+pub mod Batch
+pub mod Frontier
+pub mod Passes
