@@ -1,0 +1,9 @@
+pub mod Crafts
+pub mod Joined
+pub mod Leading
+pub mod Reached
+pub mod Search
+pub mod Stacks
+pub mod Steps
+pub mod Tied
+pub mod Ways

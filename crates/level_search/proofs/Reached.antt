@@ -1,0 +1,79 @@
+-- The bounds keep what the fronts ask of a test.
+use Rattle.std.proofs.Common.{◌≡◌, ◌∙◌, ℕ, ◌+◌, ◌-◌, ◌≤◌, Bool, true, false, ◌||◌, ◌&&◌, nat_le, Option, Some, None, arith, refl, ap, subst}
+use Rattle.std.proofs.lemmas.Bool.Decides.{nat_tests}
+use Rattle.craft_state.specs.Craft.{StateFields}
+use Rattle.craft_settings.specs.Ranges.{SettingsFields}
+use Rattle.step_rules.specs.Step.{step_of}
+use Rattle.relaxed_moves.specs.Optimum.{option_le, limit_of, within_of}
+use Rattle.prefix_fronts.specs.Prefix.{AreLimits}
+use Rattle.admissible.proofs.Limits.{Later, limit-law, within-law, last-limit, last-within}
+use Rattle.admissible.proofs.Reached.{first-step, limit-not_less, within-not_less}
+use Rattle.level_search.specs.Reaching.{is_enough, reaches}
+
+le_trans : (a b c : ℕ) → nat_le a b ≡ true → b ≤ c → nat_le a c ≡ true
+le_trans a b c h k = grind (arith, nat_tests)
+
+le_test : (a b : ℕ) → a ≤ b → nat_le a b ≡ true
+le_test a b h = grind (arith, nat_tests)
+
+-- a greater bound is enough too
+enough-more : (target : ℕ) (o o' : Option ℕ) → option_le o o' → is_enough target o ≡ true → is_enough target o' ≡ true
+enough-more target None o' le h = absurd (cc)
+enough-more target (Some a) None le h = absurd le
+enough-more target (Some a) (Some b) le h = le_trans target a b h le
+
+enough-some : (target most : ℕ) (o : Option ℕ) → target ≤ most → option_le (Some most) o → is_enough target o ≡ true
+enough-some target most o h le = enough-more target (Some most) o le (le_test target most h)
+
+both : (a b : Bool) → (a && b) ≡ true → (a ≡ true) × (b ≡ true)
+both true b h = (refl, h)
+both false b h = absurd (cc)
+
+passes_by : (first a b : Bool) → a ≡ true → b ≡ true → (first || (a && b)) ≡ true
+passes_by true a b h k = refl
+passes_by false a b h k = rw (h, k) refl
+
+-- a state passes before the first step
+reaches-first : (g : SettingsFields) (grain target j : ℕ) (s : StateFields) → s.effects.first ≡ true → reaches g grain target j s ≡ true
+unfolding reaches
+reaches-first g grain target j s first = rw first refl
+
+-- and where both bounds are enough
+reaches-by : (g : SettingsFields) (grain target j : ℕ) (s : StateFields) → is_enough target (within_of g grain s j) ≡ true → is_enough target (limit_of g grain s) ≡ true → reaches g grain target j s ≡ true
+unfolding reaches
+reaches-by g grain target j s within limit = passes_by s.effects.first _ _ within limit
+
+reaches-parts : (g : SettingsFields) (grain target j : ℕ) (s : StateFields) → s.effects.first ≡ false → reaches g grain target j s ≡ true →
+    (is_enough target (within_of g grain s j) ≡ true) × (is_enough target (limit_of g grain s) ≡ true)
+unfolding reaches
+reaches-parts g grain target j s later h =
+    both _ _ (subst (λ b. (b || (is_enough target (within_of g grain s j) && is_enough target (limit_of g grain s))) ≡ true) later h)
+
+one_less : (j : ℕ) → j + 1 - 1 ≡ j
+one_less j = omega arith
+
+-- by whether the first step is still to come
+by-first : (P : Type 0) (s : StateFields) → (s.effects.first ≡ true → P) → (s.effects.first ≡ false → P) → P
+by-first P s to_come over = elim (s.effects.first) as (λ b. s.effects.first ≡ b → P) [ true ↦ to_come | false ↦ over ] refl
+
+pub are_limits : (g : SettingsFields) (grain target : ℕ) → 1 ≤ grain → AreLimits g target (reaches g grain target)
+are_limits g grain target low = record {
+  start = λ j. reaches-first g grain target j _ refl;
+  step = λ j s action within live legal goes pass.
+      by-first (reaches g grain target (j + 1) s ≡ true) s (reaches-first g grain target (j + 1) s) (λ later.
+      let parts = reaches-parts g grain target j (step_of g s action) (first-step g s action) pass in
+      let law : Later g grain s action = record { step = record { within = within; legal = legal; live = goes }; first = later; low = low } in
+      let less = subst (λ (i : ℕ). option_le (within_of g grain (step_of g s action) i) (within_of g grain s (j + 1))) (one_less j) (within-law g grain s action (j + 1) law (omega arith)) in
+      reaches-by g grain target (j + 1) s (enough-more target _ _ less parts.0) (enough-more target _ _ (limit-law g grain s action law) parts.1));
+  order = λ j a b within within' live not_less pass.
+      by-first (reaches g grain target j a ≡ true) b
+      (λ first. reaches-first g grain target j a (ap (λ e. e.first) not_less.effects ∙ first))
+      (λ later.
+      let parts = reaches-parts g grain target j b later pass in
+      reaches-by g grain target j a (enough-more target _ _ (within-not_less g grain a b j low within not_less) parts.0) (enough-more target _ _ (limit-not_less g grain a b low within not_less) parts.1));
+  last = λ j s action within live legal done enough.
+      by-first (reaches g grain target (j + 1) s ≡ true) s (reaches-first g grain target (j + 1) s) (λ later.
+      reaches-by g grain target (j + 1) s
+      (enough-some target _ _ enough (last-within g grain s action (j + 1) record { step = record { within = within; legal = legal; done = done }; first = later; low = low } (omega arith)))
+      (enough-some target _ _ enough (last-limit g grain s action record { step = record { within = within; legal = legal; done = done }; first = later; low = low })));
+}

@@ -1,0 +1,62 @@
+-- One more turn of a loop that collects children.
+use Rattle.std.proofs.Common.{◌≡◌, ◌∙◌, sym, ℕ, ◌+◌, ◌<◌, ◌≤◌, List, [], ◌∷◌, ◌++◌, append_assoc, append-nil, Bool, Option, Some, None, length, take, get_or, arith, refl, ap, subst}
+use Rattle.std.specs.List.{filter_map, flat_map, enumerate_from}
+use Rattle.std.proofs.lemmas.List.{take_more, take_all}
+use Rattle.std.proofs.lemmas.List.Elements.{filter_map-append}
+use Rattle.std.proofs.lemmas.List.Concat.{flat_map-append}
+use Rattle.std.proofs.lemmas.List.FromFn.{length-enumerate_from, get_or-enumerate_from}
+use Rattle.action_table.specs.declared.action.Action.{Action}
+use Rattle.action_table.specs.Table.{number_of, all_actions}
+use Rattle.craft_state.specs.Craft.{StateFields}
+use Rattle.craft_settings.specs.Ranges.{SettingsFields}
+use Rattle.step_rules.proofs.ActionOrder.{take_to_action}
+use Rattle.pareto_front.specs.declared.node.Node.{Node}
+use Rattle.level_search.specs.Nodes.{children_by, nodes_by, nodes_upto}
+
+-- what the actions up to and with this one give
+collected : {Y : Type 0} (h : Action → Option Y) (a : Action) (n : ℕ) (before : List Y) → number_of a ≡ n →
+    before ++ filter_map h (take (n + 1) all_actions) ≡ before ++ filter_map h (take n all_actions) ++ filter_map h (a ∷ [])
+collected {Y} h a n before at =
+    let more : take (n + 1) all_actions ≡ take n all_actions ++ a ∷ [] = subst (λ (m : ℕ). take (m + 1) all_actions ≡ take m all_actions ++ a ∷ []) at (take_to_action a) in
+    ap (λ (l : List Action). before ++ filter_map h l) more ∙ ap (λ (l : List Y). before ++ l) (filter_map-append h (take n all_actions) (a ∷ []))
+    ∙ sym (append_assoc before (filter_map h (take n all_actions)) (filter_map h (a ∷ [])))
+
+pub collect_some : {Y : Type 0} (h : Action → Option Y) (a : Action) (n : ℕ) (y : Y) (before found found' : List Y) → number_of a ≡ n →
+    found ≡ before ++ filter_map h (take n all_actions) → h a ≡ Some y → found' ≡ found ++ y ∷ [] → found' ≡ before ++ filter_map h (take (n + 1) all_actions)
+collect_some {Y} h a n y before found found' at so here now =
+    let one : filter_map h (a ∷ []) ≡ y ∷ [] = rw here refl in
+    now ∙ ap (λ (l : List Y). l ++ y ∷ []) so ∙ ap (λ (l : List Y). before ++ filter_map h (take n all_actions) ++ l) (sym one) ∙ sym (collected h a n before at)
+
+pub collect_none : {Y : Type 0} (h : Action → Option Y) (a : Action) (n : ℕ) (before found : List Y) → number_of a ≡ n →
+    found ≡ before ++ filter_map h (take n all_actions) → h a ≡ None → found ≡ before ++ filter_map h (take (n + 1) all_actions)
+collect_none {Y} h a n before found at so here =
+    let none : filter_map h (a ∷ []) ≡ [] = rw here refl in
+    so ∙ sym (append-nil _) ∙ ap (λ (l : List Y). before ++ filter_map h (take n all_actions) ++ l) (sym none) ∙ sym (collected h a n before at)
+
+-- the children of no node, and of all
+pub nodes_upto-none : (g : SettingsFields) (t : StateFields → Action → Bool) (nodes : List Node) (count : ℕ) → count ≡ 0 → nodes_upto g t nodes count ≡ []
+unfolding nodes_upto
+nodes_upto-none g t nodes count none = rw none refl
+
+pub nodes_upto-all : (g : SettingsFields) (t : StateFields → Action → Bool) (nodes : List Node) (count : ℕ) → length nodes ≤ count → nodes_upto g t nodes count ≡ nodes_by g t nodes
+unfolding nodes_upto
+nodes_upto-all g t nodes count all = ap (flat_map (λ (p : ℕ × Node). children_by g t p.0 p.1)) (take_all count (enumerate_from 0 nodes) (omega (arith, length-enumerate_from 0 nodes, all)))
+
+-- and of one node more
+nodes_upto-more : (g : SettingsFields) (t : StateFields → Action → Bool) (nodes : List Node) (i : ℕ) (n : Node) → i < length nodes → n ≡ get_or nodes i n →
+    nodes_upto g t nodes (i + 1) ≡ nodes_upto g t nodes i ++ children_by g t i n
+unfolding nodes_upto
+nodes_upto-more g t nodes i n inside is =
+    let f : ℕ × Node → List Node = λ p. children_by g t p.0 p.1 in
+    let all : List (ℕ × Node) = enumerate_from 0 nodes in
+    let within : i < length all = omega (arith, length-enumerate_from 0 nodes) in
+    let zero_more : 0 + i ≡ i = omega arith in
+    let at : get_or all i (i, n) ≡ (i, n) = get_or-enumerate_from 0 nodes i (i, n) inside ∙ (λ j. (zero_more j, sym is j)) in
+    let more : take (i + 1) all ≡ take i all ++ (i, n) ∷ [] = take_more all i (i, n) within ∙ ap (λ (z : ℕ × Node). take i all ++ z ∷ []) at in
+    ap (flat_map f) more ∙ flat_map-append f (take i all) ((i, n) ∷ []) ∙ ap (λ (l : List Node). flat_map f (take i all) ++ l) (append-nil (children_by g t i n))
+
+pub spread_more : (g : SettingsFields) (t : StateFields → Action → Bool) (nodes : List Node) (i : ℕ) (n : Node) (before found found' : List Node) → i < length nodes → n ≡ get_or nodes i n →
+    before ++ found ≡ nodes_upto g t nodes i → found' ≡ found ++ children_by g t i n → before ++ found' ≡ nodes_upto g t nodes (i + 1)
+spread_more g t nodes i n before found found' inside is so now =
+    ap (λ (l : List Node). before ++ l) now ∙ sym (append_assoc before found (children_by g t i n)) ∙ ap (λ (l : List Node). l ++ children_by g t i n) so
+    ∙ sym (nodes_upto-more g t nodes i n inside is)

@@ -1,0 +1,4 @@
+pub mod Answer
+pub mod Nodes
+pub mod Reaching
+pub mod Searching

@@ -1,0 +1,21 @@
+-- Which states may still lead to a quality, as the bounds tell it.
+use Rattle.std.specs.Prelude.{ℕ, Bool, false, List, ◌&&◌, ◌||◌, nat_le, Option, Some, None, map, length}
+use Rattle.std.specs.List.{range_with_len}
+use Rattle.craft_settings.specs.Ranges.{SettingsFields}
+use Rattle.relaxed_moves.specs.Optimum.{limit_of, within_of}
+use Rattle.prefix_fronts.specs.Prefix.{Test, front}
+
+-- a bound that isn't below the target; None is below every number
+abbrev pub is_enough : ℕ → Option ℕ → Bool
+is_enough target None = false
+is_enough target (Some most) = nat_le target most
+
+-- with so many actions left, the state may still lead to the target: before the first step always, and later where
+-- neither its limit nor its limit within these actions is below the target
+unfoldable pub reaches : SettingsFields → ℕ → ℕ → Test
+reaches g grain target left s =
+    s.effects.first || (is_enough target (within_of g grain s left) && is_enough target (limit_of g grain s))
+
+-- how many survivors there are of each length below n
+abbrev pub front_sizes : SettingsFields → (grain target n : ℕ) → List ℕ
+front_sizes g grain target n = map (λ k. length (front g (reaches g grain target) n k)) (range_with_len 0 n)
