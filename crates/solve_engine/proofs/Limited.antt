@@ -1,6 +1,6 @@
 -- Each prefix of a macro that completes the craft has a limit.
-use Rattle.std.proofs.Common.{◌≡◌, ◌≢◌, ◌<◌, ◌≤◌, ◌++◌, ◌∙◌, ◌||◌, ◌==◌, [], ◌∷◌, ℕ, zero, suc, Bool, List, Option, Some, None, true, false, sym, subst, arith, drop, length, take}
-use Rattle.std.proofs.lemmas.List.{take-append-drop, take_all, length-take-le}
+use Rattle.std.proofs.Common.{◌≡◌, ◌≢◌, ◌≤◌, ◌∙◌, ◌==◌, [], ◌∷◌, ℕ, zero, suc, List, Option, Some, None, true, false, sym, subst, arith, drop, length, take}
+use Rattle.std.proofs.lemmas.List.{take-append-drop}
 use Rattle.action_table.specs.declared.action.Action.{Action}
 use Rattle.craft_state.specs.Craft.{StateFields}
 use Rattle.craft_settings.specs.Ranges.{SettingsFields, AreSettings}
@@ -11,8 +11,7 @@ use Rattle.step_rules.proofs.Runs.{run_of-append, IsWithin-run}
 use Rattle.step_rules.proofs.Bounds.{IsWithin-start}
 use Rattle.relaxed_moves.specs.Budget.{potential_of, start_potential_of}
 use Rattle.relaxed_moves.specs.Optimum.{option_le, limit_of}
-use Rattle.replay_report.specs.Limits.{AreLimited, IsLimited}
-use Rattle.replay_report.proofs.Along.{last_complete}
+use Rattle.replay_report.specs.Limits.{AreLimited}
 
 abbrev pub PotentialLaw : Type 0
 PotentialLaw = (g : SettingsFields) (actions : List Action) (s : StateFields) → AreSettings g → run_of g (start_of g) actions ≡ Some s → potential_of g s ≤ start_potential_of g

@@ -8,7 +8,9 @@ use Rattle.craft_settings.specs.Reading.{file_fault}
 use Rattle.craft_settings.specs.declared.fault.SettingsFault.{SettingsFault}
 use Rattle.craft_settings.specs.declared.fault.SettingsFault.TheVariants.{TooLong}
 use Rattle.macro_order.specs.Order.{NothingCompletes}
-use Rattle.replay_report.specs.declared.style.Report.{Report}
+use Rattle.sample_craft.specs.Sample.{sample_of}
+use Rattle.solve_words.specs.declared.words.Command.{Command}
+use Rattle.solve_words.specs.declared.words.Command.TheVariants.{Solve, Sample}
 use Rattle.solve_words.specs.declared.words.Words.{Words}
 use Rattle.solve_engine.specs.Text.{IsBestText, IsText, none_text}
 use Rattle.solve_engine.specs.FaultLine.{settings_line}
@@ -31,6 +33,11 @@ pub record Reads (g : SettingsFields) (left left' : Option (List ℕ)) : Type 0 
   pub accepted : Accepts bytes g
   pub only : (other : SettingsFields) → Accepts bytes other → other ≡ g
 
+-- the settings that a command is about: those that are read, or the sample settings of a number
+abbrev pub IsAbout : Command → SettingsFields → Option (List ℕ) → Option (List ℕ) → Type 0
+IsAbout Solve g left left' = Reads g left left'
+IsAbout (Sample n) g left left' = g ≡ sample_of n
+
 -- a file is too long exactly where one byte too many was read; else all of it was read
 abbrev pub IsWholeUnlessLong : SettingsFault → List ℕ → Option (List ℕ) → Type 0
 IsWholeUnlessLong fault bytes left' =
@@ -46,24 +53,24 @@ pub record ReadsFault (fault : SettingsFault) (left left' : Option (List ℕ)) :
 -- the best macro's text was written whole, as these words ask for it
 pub record WritesBest (given : Words) (left left' taken taken' : Option (List ℕ)) : Type 0 where
   pub settings : SettingsFields
-  pub reads : Reads settings left left'
+  pub about : IsAbout given.command settings left left'
   pub text : List ℕ
-  pub best : IsBestText settings given.grain given.report text
+  pub best : IsBestText given given.command settings text
   pub writes : Appends taken taken' text
 
--- `none` was written whole, where no legal macro completes
-pub record WritesNone (left left' taken taken' : Option (List ℕ)) : Type 0 where
+-- the text for no macro was written whole, where no legal macro completes
+pub record WritesNone (given : Words) (left left' taken taken' : Option (List ℕ)) : Type 0 where
   pub settings : SettingsFields
-  pub reads : Reads settings left left'
+  pub about : IsAbout given.command settings left left'
   pub nothing : NothingCompletes settings
-  pub writes : Appends taken taken' none_text
+  pub writes : Appends taken taken' (none_text given.command settings)
 
 -- a part of the text was written, and not the whole
 pub record WritesPart (given : Words) (left left' taken taken' : Option (List ℕ)) : Type 0 where
   pub settings : SettingsFields
-  pub reads : Reads settings left left'
+  pub about : IsAbout given.command settings left left'
   pub text : List ℕ
-  pub is : IsText settings given.grain given.report text
+  pub is : IsText given settings text
   pub count : ℕ
   pub short : count < length text
   pub writes : Appends taken taken' (take count text)
@@ -75,22 +82,22 @@ pub record Tells (line : List ℕ) (taken taken' : Option (List ℕ)) (faults fa
   pub part : Appends taken taken' (take count line)
   pub whole : (Rose faults faults' → ⊥) → Appends taken taken' line
 
--- the text of the best macro, or `none`
-abbrev pub IsAnswerText : SettingsFields → ℕ → Report → List ℕ → (solved : Bool) → Type 0
-IsAnswerText g grain style text true = IsBestText g grain style text
-IsAnswerText g grain style text false = NothingCompletes g × (text ≡ none_text)
+-- the text of the best macro, or that for none
+abbrev pub IsAnswerText : Words → SettingsFields → List ℕ → (solved : Bool) → Type 0
+IsAnswerText given g text true = IsBestText given given.command g text
+IsAnswerText given g text false = NothingCompletes g × (text ≡ none_text given.command g)
 
--- the settings that were read have this text
+-- the settings that the command is about have this text
 pub record Answers (given : Words) (left left' : Option (List ℕ)) (text : List ℕ) (solved : Bool) : Type 0 where
   pub settings : SettingsFields
-  pub reads : Reads settings left left'
-  pub is : IsAnswerText settings given.grain given.report text solved
+  pub about : IsAbout given.command settings left left'
+  pub is : IsAnswerText given settings text solved
 
--- why no text came
-abbrev pub Halts : Halt → Option (List ℕ) → Option (List ℕ) → ℕ → ℕ → Type 0
-Halts ReadFault left left' faults faults' = Rose faults faults'
-Halts (Refused line) left left' faults faults' = (fault : SettingsFault) × ReadsFault fault left left' × (line.items ≡ settings_line fault)
-Halts WantMemory left left' faults faults' = ⊤
+-- why no text came; only a command that reads has the first two
+abbrev pub Halts : Command → Halt → Option (List ℕ) → Option (List ℕ) → ℕ → ℕ → Type 0
+Halts command ReadFault left left' faults faults' = Rose faults faults' × (command ≡ Solve)
+Halts command (Refused line) left left' faults faults' = (fault : SettingsFault) × ReadsFault fault left left' × (line.items ≡ settings_line fault) × (command ≡ Solve)
+Halts command WantMemory left left' faults faults' = ⊤
 
 -- why no bytes came
 abbrev pub HaltsReading : Halt → ℕ → ℕ → Type 0

@@ -11,7 +11,9 @@ use Rattle.solve_engine.specs.declared.status.Status.{Status}
 use Rattle.solve_engine.specs.declared.status.Status.TheVariants.{Solved, NoMacro, BadWords, BadSettings, ReadFault, WriteFault, WantMemory}
 use Rattle.solve_engine.specs.FaultLine.{words_line, read_line, write_line, memory_line, settings_line}
 use Rattle.solve_engine.specs.Outcome.{ReadsFault, Tells}
-use Rattle.solve_engine.specs.Text.{IsBestText, none_text}
+use Rattle.replay_report.specs.Sample.{none_line, sample_none_of}
+use Rattle.sample_craft.specs.Sample.{sample_of}
+use Rattle.solve_engine.specs.Text.{IsMacroText, IsSampleText}
 
 -- the run ended before the first byte was written
 abbrev pub IsBeforeWriting : Status → Type 0
@@ -36,13 +38,21 @@ TellsFault WriteFault left left' taken taken' faults faults' = Tells write_line 
 TellsFault WantMemory left left' taken taken' faults faults' = Tells memory_line taken taken' faults faults'
 TellsFault _ left left' taken taken' faults faults' = ⊤
 
--- these bytes are accepted as settings, and the whole text for them was written
+-- these bytes are accepted as settings, and the whole text of their best macro was written, or `none`
 abbrev pub AnswersFor : Words → List ℕ → Status → Option (List ℕ) → Option (List ℕ) → Type 0
 AnswersFor given bytes Solved taken taken' =
-    (g : SettingsFields) × (text : List ℕ) × Accepts bytes g × IsBestText g given.grain given.report text × Appends taken taken' text
+    (g : SettingsFields) × (m : List Action) × (text : List ℕ) × Accepts bytes g × IsBest g m × IsMacroText g given.grain given.report m text × Appends taken taken' text
 AnswersFor given bytes NoMacro taken taken' =
-    (g : SettingsFields) × Accepts bytes g × NothingCompletes g × Appends taken taken' none_text
+    (g : SettingsFields) × Accepts bytes g × NothingCompletes g × Appends taken taken' none_line
 AnswersFor given bytes _ taken taken' = ⊥
+
+-- the two lines for the sample settings of a number were written
+abbrev pub AnswersSample : ℕ → ℕ → Status → Option (List ℕ) → Option (List ℕ) → Type 0
+AnswersSample n grain Solved taken taken' =
+    (m : List Action) × (text : List ℕ) × IsBest (sample_of n) m × IsSampleText n (sample_of n) grain m text × Appends taken taken' text
+AnswersSample n grain NoMacro taken taken' =
+    NothingCompletes (sample_of n) × Appends taken taken' (sample_none_of n (sample_of n))
+AnswersSample n grain _ taken taken' = ⊥
 
 -- a best macro, or none where no legal macro completes, or want of memory
 abbrev pub IsAnswerTo : SettingsFields → Status → Type 0

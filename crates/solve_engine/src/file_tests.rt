@@ -4,6 +4,7 @@ use crate::tests::{ONE_TOUCH, TOUCH, TWO_TOUCHES, craft, is_refused, solves};
 use std::test::Fail;
 
 const TOUCH_OF_TEN: &str = "steps 2 seconds 6 progress 100/100 quality 10/500
+kept 2
 macro 1
 /ac \"Basic Touch\" <wait.3>
 /ac \"Basic Synthesis\" <wait.3>
@@ -13,6 +14,7 @@ replay
 ";
 
 const TOUCH_OF_ONE: &str = "steps 2 seconds 6 progress 100/100 quality 1/500
+kept 2
 macro 1
 /ac \"Basic Touch\" <wait.3>
 /ac \"Basic Synthesis\" <wait.3>
@@ -22,6 +24,7 @@ replay
 ";
 
 const TOUCH_TO_TARGET: &str = "steps 2 seconds 6 progress 100/100 quality 100/500
+kept 2
 macro 1
 /ac \"Basic Touch\" <wait.3>
 /ac \"Basic Synthesis\" <wait.3>
@@ -31,6 +34,7 @@ replay
 ";
 
 const TOUCH_BETWEEN: &str = "steps 3 seconds 9 progress 200/200 quality 100/500
+kept 5
 macro 1
 /ac \"Basic Synthesis\" <wait.3>
 /ac \"Basic Touch\" <wait.3>
@@ -42,6 +46,7 @@ replay
 ";
 
 const TOUCH_FIRST: &str = "steps 3 seconds 9 progress 200/200 quality 100/500
+kept 4
 macro 1
 /ac \"Basic Touch\" <wait.3>
 /ac \"Basic Synthesis\" <wait.3>
@@ -52,7 +57,6 @@ replay
   3 Basic Synthesis         200    100   0    0
 ";
 
-// Only a few actions are left, since a plain walk over all lists of this much CP takes too long.
 const EYE_FILE: &str = "version = 2
 [crafter]
 level = 80
@@ -65,16 +69,10 @@ trained_eye = true
 [base]
 progress = 100
 quality = 100
-[actions]
-forbid = [
-    \"masters_mend\", \"observe\", \"waste_not\", \"veneration\", \"standard_touch\", \"great_strides\",
-    \"innovation\", \"waste_not_ii\", \"byregots_blessing\", \"careful_synthesis\", \"manipulation\",
-    \"prudent_touch\", \"preparatory_touch\", \"groundwork\", \"delicate_synthesis\", \"advanced_touch\",
-    \"prudent_synthesis\", \"trained_finesse\", \"refined_touch\", \"immaculate_mend\", \"trained_perfection\",
-]
 ";
 
 const EYE: &str = "steps 2 seconds 6 progress 120/120 quality 5000/5000
+kept 2
 macro 1
 /ac \"Trained Eye\" <wait.3>
 /ac \"Basic Synthesis\" <wait.3>

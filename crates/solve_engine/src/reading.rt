@@ -9,6 +9,7 @@ use crate::fault_lines::settings_line;
 use action_table::WantMemory;
 use craft_io::{Source, fill};
 use craft_settings::{Settings, read};
+use solve_words::Command;
 use std::alloc::Global;
 
 // One byte more than a settings file may have, so that a longer one is seen.
@@ -32,9 +33,9 @@ impl From<WantMemory> for Halt {
 }
 
 /// The settings that the source's bytes are. At most 65537 bytes are read.
-pub(crate) fn settings_of<S: Source>(alloc: Global, source: &mut S) -> Result<Settings, Halt>
+pub(crate) fn read_settings<S: Source>(alloc: Global, source: &mut S) -> Result<Settings, Halt>
     ensures reads { IfOk result (λ g. Reads g (S.left source.old) (S.left source.new)) }
-    ensures halts { IfErr result (λ h. Halts h (S.left source.old) (S.left source.new) (S.faults source.old) (S.faults source.new)) }
+    ensures halts { IfErr result (λ h. Halts Command.Solve h (S.left source.old) (S.left source.new) (S.faults source.old) (S.faults source.new)) }
     ensures at_most { TakesAtMost read_most (S.left source.old) (S.left source.new) }
     ensures times { ReadsAtMostTimes (read_most + 1) (S.reads source.old) (S.reads source.new) }
 {

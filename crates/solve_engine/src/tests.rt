@@ -2,11 +2,13 @@ use crate::{Status, run};
 use craft_io::{MemorySink, MemorySource};
 use std::alloc::{AllocError, Global};
 use std::process::Abort;
+use std::sync::atomic::{AtomicU64, Ordering};
 use std::test::Fail;
 use std::thread::Threads;
-use worker_gate::FreeGate;
+use worker_gate::{FreeGate, Gate};
 
 const EASY: &str = "steps 1 seconds 3 progress 100/100 quality 0/100
+kept 1
 macro 1
 /ac \"Basic Synthesis\" <wait.3>
 replay
@@ -14,6 +16,7 @@ replay
 ";
 
 pub(crate) const TOUCH: &str = "steps 2 seconds 6 progress 100/100 quality 100/500
+kept 2
 macro 1
 /ac \"Basic Touch\" <wait.3>
 /ac \"Basic Synthesis\" <wait.3>
@@ -23,6 +26,7 @@ replay
 ";
 
 const NO_TOUCH: &str = "steps 1 seconds 3 progress 100/100 quality 0/500
+kept 1
 macro 1
 /ac \"Basic Synthesis\" <wait.3>
 replay
@@ -30,6 +34,7 @@ replay
 ";
 
 pub(crate) const TWO_TOUCHES: &str = "steps 3 seconds 9 progress 100/100 quality 210/500
+kept 3
 macro 1
 /ac \"Basic Touch\" <wait.3>
 /ac \"Basic Touch\" <wait.3>
@@ -41,6 +46,7 @@ replay
 ";
 
 const TWO_PLAIN_TOUCHES: &str = "steps 3 seconds 9 progress 100/100 quality 200/500
+kept 3
 macro 1
 /ac \"Basic Touch\" <wait.3>
 /ac \"Basic Touch\" <wait.3>
@@ -52,6 +58,7 @@ replay
 ";
 
 const MUCH_CP: &str = "steps 2 seconds 6 progress 100/100 quality 100/500
+kept 2
 macro 1
 /ac \"Basic Touch\" <wait.3>
 /ac \"Basic Synthesis\" <wait.3>
@@ -61,6 +68,7 @@ replay
 ";
 
 const MUCH_DURABILITY: &str = "steps 2 seconds 6 progress 100/100 quality 100/500
+kept 2
 macro 1
 /ac \"Basic Touch\" <wait.3>
 /ac \"Basic Synthesis\" <wait.3>
@@ -70,6 +78,7 @@ replay
 ";
 
 const VENERATION: &str = "steps 2 seconds 5 progress 150/150 quality 0/0
+kept 3
 macro 1
 /ac \"Veneration\" <wait.2>
 /ac \"Basic Synthesis\" <wait.3>
@@ -79,6 +88,7 @@ replay
 ";
 
 const INNOVATION: &str = "steps 4 seconds 10 progress 150/150 quality 150/500
+kept 17
 macro 1
 /ac \"Veneration\" <wait.2>
 /ac \"Innovation\" <wait.2>
@@ -92,6 +102,7 @@ replay
 ";
 
 const INNOVATION_LIMITS: &str = "steps 4 seconds 10 progress 150/150 quality 150/500
+kept 17
 macro 1
 /ac \"Veneration\" <wait.2>
 /ac \"Innovation\" <wait.2>
@@ -104,8 +115,27 @@ replay
   4 Basic Synthesis         150    150   0    0    150
 ";
 
+const INNOVATION_LEVELS: &str = "steps 4 seconds 10 progress 150/150 quality 150/500
+kept 17
+macro 1
+/ac \"Veneration\" <wait.2>
+/ac \"Innovation\" <wait.2>
+/ac \"Basic Touch\" <wait.3>
+/ac \"Basic Synthesis\" <wait.3>
+replay
+  1 Veneration                0      0  20   36
+  2 Innovation                0      0  20   18
+  3 Basic Touch               0    150  10    0
+  4 Basic Synthesis         150    150   0    0
+level 0 1
+level 1 4
+level 2 9
+level 3 3
+";
+
 // At grain 16 the limits are 100.
 const COARSE_LIMITS: &str = "steps 3 seconds 9 progress 200/200 quality 100/500
+kept 6
 macro 1
 /ac \"Basic Synthesis\" <wait.3>
 /ac \"Basic Touch\" <wait.3>
@@ -117,6 +147,7 @@ replay
 ";
 
 const PERFECTION: &str = "steps 2 seconds 6 progress 360/360 quality 0/0
+kept 6
 macro 1
 /ac \"Trained Perfection\" <wait.3>
 /ac \"Groundwork\" <wait.3>
@@ -126,6 +157,7 @@ replay
 ";
 
 const GROUNDWORK: &str = "steps 1 seconds 3 progress 180/180 quality 0/0
+kept 1
 macro 1
 /ac \"Groundwork\" <wait.3>
 replay
@@ -133,6 +165,7 @@ replay
 ";
 
 const MUSCLE_MEMORY: &str = "steps 1 seconds 3 progress 180/180 quality 0/0
+kept 1
 macro 1
 /ac \"Muscle Memory\" <wait.3>
 replay
@@ -168,7 +201,7 @@ struct Devices {
     room: usize,
 }
 
-const ROOM: usize = 512;
+const ROOM: usize = 1024;
 
 const SOUND: Devices = Devices {
     read: 0,
@@ -177,9 +210,20 @@ const SOUND: Devices = Devices {
     room: ROOM,
 };
 
-// Reads in pieces of 10 bytes and writes in pieces of 5.
 fn gives<R: AllocGlobal + Abort + Threads + Sync>(
     rt: &R,
+    words: &[&str],
+    file: &[u8],
+    devices: Devices,
+    want: (Status, &[u8], &str),
+) -> Result<(), Fail> {
+    gives_behind(rt, &FreeGate, words, file, devices, want)
+}
+
+// Reads in pieces of 10 bytes and writes in pieces of 5.
+fn gives_behind<R: AllocGlobal + Abort + Threads + Sync, G: Gate>(
+    rt: &R,
+    gate: &G,
     words: &[&str],
     file: &[u8],
     devices: Devices,
@@ -203,7 +247,7 @@ fn gives<R: AllocGlobal + Abort + Threads + Sync>(
         &mut source,
         &mut out,
         &mut err,
-        &FreeGate,
+        gate,
     );
     assert_eq!(rt; answer, status);
     assert_eq!(rt; out.taken(), text);
@@ -216,8 +260,17 @@ pub(crate) fn solves<R: AllocGlobal + Abort + Threads + Sync>(
     file: &[u8],
     want: (Status, &str, &str),
 ) -> Result<(), Fail> {
+    prints(rt, &["solve"], file, want)
+}
+
+pub(crate) fn prints<R: AllocGlobal + Abort + Threads + Sync>(
+    rt: &R,
+    words: &[&str],
+    file: &[u8],
+    want: (Status, &str, &str),
+) -> Result<(), Fail> {
     let (status, text, line) = want;
-    gives(rt, &["solve"], file, SOUND, (status, text.as_bytes(), line))
+    gives(rt, words, file, SOUND, (status, text.as_bytes(), line))
 }
 
 #[test]
@@ -305,7 +358,7 @@ fn longest_file(rt: HostRuntime) -> Result<(), Fail> {
     solves(&rt, &bytes, want)
 }
 
-// The file has 118 bytes and the text 220. `out` takes the first `taken` bytes of the text.
+// The file has 118 bytes and the text 227. `out` takes the first `taken` bytes of the text.
 fn fails<R: AllocGlobal + Abort + Threads + Sync>(
     rt: &R,
     devices: Devices,
@@ -326,7 +379,7 @@ fn failing_devices(rt: HostRuntime) -> Result<(), Fail> {
         let devices = Devices { read, ..SOUND };
         fails(&rt, devices, Status::ReadFault, 0, READ_LINE)?;
     }
-    for earlier in 0..44u32 {
+    for earlier in 0..46u32 {
         let devices = Devices {
             write: u64::from(earlier) + 1,
             ..SOUND
@@ -335,11 +388,11 @@ fn failing_devices(rt: HostRuntime) -> Result<(), Fail> {
         fails(&rt, devices, Status::WriteFault, taken, WRITE_LINE)?;
     }
     for (read, write, tell, room, status, taken, line) in [
-        (14, 0, 0, ROOM, Status::Solved, 220, ""),
-        (0, 45, 0, ROOM, Status::Solved, 220, ""),
-        (0, 45, 1, ROOM, Status::Solved, 220, ""),
-        (0, 0, 0, 220, Status::Solved, 220, ""),
-        (0, 0, 0, 219, Status::WriteFault, 219, WRITE_LINE),
+        (14, 0, 0, ROOM, Status::Solved, 227, ""),
+        (0, 47, 0, ROOM, Status::Solved, 227, ""),
+        (0, 47, 1, ROOM, Status::Solved, 227, ""),
+        (0, 0, 0, 227, Status::Solved, 227, ""),
+        (0, 0, 0, 226, Status::WriteFault, 226, WRITE_LINE),
         (0, 0, 0, 100, Status::WriteFault, 100, WRITE_LINE),
         (1, 0, 1, ROOM, Status::ReadFault, 0, ""),
         (0, 2, 1, ROOM, Status::WriteFault, 5, ""),
@@ -368,7 +421,10 @@ fn given_words(rt: HostRuntime) -> Result<(), Fail> {
     is_bad(&rt, &[])?;
     is_bad(&rt, &["Solve"])?;
     is_bad(&rt, &["solve", "--"])?;
-    is_bad(&rt, &["solve", "--report", "levels"])?;
+    is_bad(&rt, &["solve", "--report", "level"])?;
+    is_bad(&rt, &["sample"])?;
+    is_bad(&rt, &["sample", "1000000"])?;
+    is_bad(&rt, &["sample", "7", "--report", "plain"])?;
     let file = craft(rt.alloc(), ONE_TOUCH)?;
     let words = ["solve", "--workers=64", "--report", "plain", "--grain", "8"];
     let want = (Status::Solved, TOUCH.as_bytes(), "");
@@ -376,13 +432,138 @@ fn given_words(rt: HostRuntime) -> Result<(), Fail> {
 }
 
 #[test]
-fn limits(rt: HostRuntime) -> Result<(), Fail> {
+fn styles(rt: HostRuntime) -> Result<(), Fail> {
     let file = craft(rt.alloc(), [26, 54, 20, 150, 500])?;
-    let words = ["solve", "--workers=64", "--report", "limits"];
-    let want = (Status::Solved, INNOVATION_LIMITS.as_bytes(), "");
-    gives(&rt, &words, file.as_bytes(), SOUND, want)?;
+    for (words, text) in [
+        (
+            ["solve", "--workers=64", "--report=limits"],
+            INNOVATION_LIMITS,
+        ),
+        (
+            ["solve", "--workers=1", "--report=levels"],
+            INNOVATION_LEVELS,
+        ),
+    ] {
+        let want = (Status::Solved, text.as_bytes(), "");
+        gives(&rt, &words, file.as_bytes(), SOUND, want)?;
+    }
     let file = craft(rt.alloc(), [11, 36, 30, 200, 500])?;
     let words = ["solve", "--report=limits", "--grain", "1"];
     let want = (Status::Solved, COARSE_LIMITS.as_bytes(), "");
     gives(&rt, &words, file.as_bytes(), SOUND, want)
+}
+
+const ORDINARY_FILE: &str = "[crafter]
+level = 50
+cp = 180
+craftsmanship = 240
+control = 200
+[recipe]
+durability = 40
+progress = 150
+quality = 400
+progress_div = 50
+quality_div = 30
+";
+
+const ORDINARY: &str = "steps 6 seconds 16 progress 150/150 quality 400/400
+kept 103
+macro 1
+/ac \"Basic Synthesis\" <wait.3>
+/ac \"Veneration\" <wait.2>
+/ac \"Standard Touch\" <wait.3>
+/ac \"Great Strides\" <wait.2>
+/ac \"Standard Touch\" <wait.3>
+/ac \"Basic Synthesis\" <wait.3>
+replay
+  1 Basic Synthesis          60      0  30  180
+  2 Veneration               60      0  30  162
+  3 Standard Touch           60    126  20  130
+  4 Great Strides            60    126  20   98
+  5 Standard Touch           60    400  10   66
+  6 Basic Synthesis         150    400   0   66
+level 0 1
+level 1 4
+level 2 14
+level 3 33
+level 4 43
+level 5 8
+";
+
+#[test]
+fn number_of_workers(rt: HostRuntime) -> Result<(), Fail> {
+    for workers in ["--workers=1", "--workers=2", "--workers=4", "--workers=64"] {
+        let words = ["solve", workers, "--report=levels"];
+        let want = (Status::Solved, ORDINARY.as_bytes(), "");
+        gives(&rt, &words, ORDINARY_FILE.as_bytes(), SOUND, want)?;
+    }
+    Ok(())
+}
+
+// Each of two workers shows its flag at the gate, and waits there for the other's.
+#[derive(Drop)]
+struct Meeting {
+    first: AtomicU64,
+    second: AtomicU64,
+    missed: AtomicU64,
+}
+
+impl Meeting {
+    fn flag(&self, worker: u32) -> &AtomicU64 {
+        if worker == 0 {
+            &self.first
+        } else {
+            &self.second
+        }
+    }
+}
+
+impl Gate for Meeting {
+    fn pass(&self, worker: u32) {
+        self.flag(worker).store(1, Ordering::SeqCst);
+        let other = self.flag(1 - worker.min(1));
+        for _ in 0..100_000_000u32 {
+            if other.load(Ordering::SeqCst) == 1 {
+                return;
+            }
+        }
+        self.missed.store(1, Ordering::SeqCst);
+    }
+}
+
+#[test]
+fn workers_run_side_by_side(rt: HostRuntime) -> Result<(), Fail> {
+    let gate = Meeting {
+        first: AtomicU64::new(0),
+        second: AtomicU64::new(0),
+        missed: AtomicU64::new(0),
+    };
+    let words = ["solve", "--workers=2", "--report=levels"];
+    let want = (Status::Solved, ORDINARY.as_bytes(), "");
+    gives_behind(&rt, &gate, &words, ORDINARY_FILE.as_bytes(), SOUND, want)?;
+    assert_eq!(rt; gate.missed.load(Ordering::SeqCst), 0);
+    Ok(())
+}
+
+const SAMPLE_OF_SEVEN: &str =
+    "sample 7 level 23 cp 88 durability 35 progress 262 quality 250 base 43 69
+steps 7 seconds 19 quality 0/250 kept 404
+";
+
+// A sample reads nothing, so the first call of the source does not fail.
+#[test]
+fn samples(rt: HostRuntime) -> Result<(), Fail> {
+    let devices = Devices { read: 1, ..SOUND };
+    for workers in ["1", "4"] {
+        let words = ["sample", "7", "--workers", workers];
+        let want = (Status::Solved, SAMPLE_OF_SEVEN.as_bytes(), "");
+        gives(&rt, &words, b"", devices, want)?;
+    }
+    for (write, taken, line) in [(1, 0, WRITE_LINE), (2, 5, WRITE_LINE)] {
+        let devices = Devices { write, ..devices };
+        let text = &SAMPLE_OF_SEVEN.as_bytes()[..taken];
+        let want = (Status::WriteFault, text, line);
+        gives(&rt, &["sample", "7"], b"", devices, want)?;
+    }
+    Ok(())
 }

@@ -1,22 +1,24 @@
 // The text that is written for settings.
 ghost use Rattle.std.specs.Prelude.{◌≡◌, ◌≤◌, IfOk};
 ghost use Rattle.craft_settings.specs.Ranges.{AreSettings, IsFromTo};
-ghost use Rattle.macro_order.specs.Order.{IsBest};
 ghost use Rattle.step_rules.specs.Legality.{start_of};
 ghost use Rattle.step_rules.specs.Macro.{Completes};
-ghost use Rattle.replay_report.specs.Limits.{AreLimited, AreLimits, AreLimitsFor};
-ghost use Rattle.solve_engine.specs.Text.{IsMacroText, none_text};
+ghost use Rattle.replay_report.specs.Limits.{AreLimited, AreLimitsFor};
+ghost use Rattle.solve_words.specs.Words.{AreInRange};
 ghost use Rattle.solve_engine.specs.Outcome.{IsAnswerText};
+ghost use Rattle.solve_engine.specs.Search.{IsFound};
+ghost use Rattle.solve_engine.specs.Text.{IsMacroText, IsTextFor, none_text};
 
+use crate::searches::{Found, find};
 use action_table::{Action, WantMemory};
 use admissible::laws::{macro_law, start_law};
 use craft_settings::Settings;
-use plain_search::best_macro;
-use quality_bound::QualityTruth;
-use replay_report::{Report, limits, report};
-use seat_tables::Shared;
+use replay_report::{Report, limits, report, sample_none, sample_report};
+use solve_words::{Command, Words};
 use std::alloc::Global;
+use std::thread::Threads;
 use step_rules::start;
+use worker_gate::Gate;
 
 /// A text, and whether it is that of a macro.
 #[derive(Drop)]
@@ -25,43 +27,60 @@ pub(crate) struct Answer {
     pub solved: bool,
 }
 
-/// The text of the best macro in a style, with the limits at a grain where it shows them, or `none` where no legal
-/// macro completes.
-pub(crate) fn answer_of(
+/// The text of the best macro, or that for none where no legal macro completes, as the words ask for it.
+pub(crate) fn answer_of<R: Threads + Sync, G: Gate>(
+    rt: &R,
     alloc: Global,
     g: &Settings,
-    grain: u32,
-    style: Report,
+    given: &Words,
+    gate: &G,
 ) -> Result<Answer, WantMemory>
-    requires { IsFromTo 1 64 grain }
-    ensures { IfOk result (λ a. IsAnswerText g.now grain style a.text.items a.solved) }
+    requires { AreInRange given.now }
+    ensures { IfOk result (λ a. IsAnswerText given.now g.now a.text.items a.solved) }
 {
-    match best_macro(alloc, g)? {
+    match find(rt, alloc, g, given.grain, given.workers, gate)? {
         None => Ok(Answer {
-            text: none_text(alloc)?,
+            text: none_text(alloc, g, given.command)?,
             solved: false,
         }),
-        Some(actions) => Ok(Answer {
-            text: macro_text(alloc, g, grain, style, &actions)?,
+        Some(mut found) => Ok(Answer {
+            text: text_of(alloc, g, given, &mut found)?,
             solved: true,
         }),
     }
 }
 
-// The text of a macro that completes the craft.
+// The text of the macro that was found, as the words ask for it.
+fn text_of(
+    alloc: Global,
+    g: &Settings,
+    given: &Words,
+    found: &mut Found,
+) -> Result<Vec<u8>, WantMemory>
+    requires range { AreInRange given.now }
+    requires found { IsFound g.now given.now.grain found.old }
+    ensures { IfOk result (λ text. IsTextFor given.now given.now.command g.now found.old.actions.items text.items) }
+{
+    match given.command {
+        Command::Solve => macro_text(alloc, g, given.grain, given.report, found),
+        Command::Sample(n) => sample_report(alloc, n, g, &found.actions, &found.counts),
+    }
+}
+
+// The text of the macro in a style.
 fn macro_text(
     alloc: Global,
     g: &Settings,
     grain: u32,
     style: Report,
-    actions: &[Action],
+    found: &mut Found,
 ) -> Result<Vec<u8>, WantMemory>
     requires grain { IsFromTo 1 64 grain }
-    requires complete { Completes g.now (start_of g.now) actions.now }
-    ensures { IfOk result (λ text. IsMacroText g.now grain style actions.now text.items) }
+    requires found { IsFound g.now grain found.old }
+    ensures { IfOk result (λ text. IsMacroText g.now grain style found.old.actions.items text.items) }
 {
-    let limits = limits_for(alloc, g, grain, style, actions)?;
-    report(alloc, g, actions, &limits, &style)
+    let limits = limits_for(alloc, g, grain, style, found)?;
+    report(alloc, g, &found.actions, &found.counts, &limits, &style)
 }
 
 // The limits that a style shows.
@@ -70,32 +89,20 @@ fn limits_for(
     g: &Settings,
     grain: u32,
     style: Report,
-    actions: &[Action],
+    found: &mut Found,
 ) -> Result<Vec<u32>, WantMemory>
     requires grain { IsFromTo 1 64 grain }
-    requires complete { Completes g.now (start_of g.now) actions.now }
-    ensures { IfOk result (λ limits. AreLimitsFor g.now grain style actions.now limits.items) }
+    requires found { IsFound g.now grain found.old }
+    ensures limits { IfOk result (λ limits. AreLimitsFor g.now grain style found.old.actions.items limits.items) }
+    ensures same { found.new.actions ≡ found.old.actions × found.new.counts ≡ found.old.counts }
 {
     match style {
-        Report::Plain => Ok(Vec::new(alloc)),
-        Report::Limits => limits_at(alloc, g, grain, actions),
+        Report::Limits => {
+            limited_law(g, grain, &found.actions);
+            limits(alloc, g, &found.table, &mut found.seat, &found.actions)
+        }
+        Report::Plain | Report::Levels => Ok(Vec::new(alloc)),
     }
-}
-
-// The limits along a macro, from a table and a seat of their own.
-fn limits_at(
-    alloc: Global,
-    g: &Settings,
-    grain: u32,
-    actions: &[Action],
-) -> Result<Vec<u32>, WantMemory>
-    requires grain { IsFromTo 1 64 grain }
-    requires complete { Completes g.now (start_of g.now) actions.now }
-    ensures { IfOk result (λ limits. AreLimits g.now grain actions.now limits.items) }
-{
-    limited_law(g, grain, actions);
-    let (shared, mut seat) = Shared::new(alloc, QualityTruth { g: *g, grain })?;
-    limits(alloc, g, &shared, &mut seat, actions)
 }
 
 // Each prefix of a macro that completes the craft has a limit, where it leaves the craft going: the laws of the
@@ -112,8 +119,12 @@ fn limited_law(g: &Settings, grain: u32, actions: &[Action])
     let _actions = actions;
 }
 
-fn none_text(alloc: Global) -> Result<Vec<u8>, WantMemory>
-    ensures { IfOk result (λ text. text.items ≡ none_text) }
+// The text for a command where no legal macro completes.
+fn none_text(alloc: Global, g: &Settings, command: Command) -> Result<Vec<u8>, WantMemory>
+    ensures { IfOk result (λ text. text.items ≡ none_text command g.now) }
 {
-    Ok(Vec::from_slice(alloc, b"none\n")?)
+    match command {
+        Command::Solve => Ok(Vec::from_slice(alloc, b"none\n")?),
+        Command::Sample(n) => sample_none(alloc, n, g),
+    }
 }
