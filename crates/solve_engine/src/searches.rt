@@ -41,13 +41,13 @@ pub(crate) fn find<R: Threads + Sync, G: Gate>(
     requires workers { IsFromTo 1 64 workers }
     ensures { IfOk result (λ found. MatchOption found (NothingCompletes g.now) (IsFound g.now grain)) }
 {
-    let (table, first) = quality_table(alloc, g, grain)?;
+    let (table, first) = Shared::new(alloc, QualityTruth::new(g, grain))?;
     let seats = seats_of(alloc, &table, first, workers)?;
     let (quality, seats) = best_quality(rt, alloc, g, grain, &table, seats, gate)?;
     let Some(target) = quality else {
         return Ok(None);
     };
-    let (steps, first) = step_table(alloc, g, grain)?;
+    let (steps, first) = Shared::new(alloc, StepTruth::new(g, grain))?;
     let searchers = searchers_of(alloc, &table, &steps, seats, first)?;
     let (found, searchers) = best_macro(
         rt, alloc, g, grain, target, &table, &steps, searchers, gate,
@@ -60,36 +60,6 @@ pub(crate) fn find<R: Threads + Sync, G: Gate>(
         table,
         seat,
     }))
-}
-
-// The table of quality bounds, with a seat.
-fn quality_table(
-    alloc: Global,
-    g: &Settings,
-    grain: u32,
-) -> Result<(Shared<QualityTruth>, Seat<QualityTruth>), WantMemory>
-    requires { IsFromTo 1 64 grain }
-    ensures of { IfOk result (λ made. IsOf made.0 made.1) }
-    ensures craft { IfOk result (λ made. made.0.truth.g ≡ g.now) }
-    ensures grain { IfOk result (λ made. made.0.truth.grain ≡ grain) }
-{
-    let _level = g.level;
-    Shared::new(alloc, QualityTruth { g: *g, grain })
-}
-
-// The table of step bounds, with a seat.
-fn step_table(
-    alloc: Global,
-    g: &Settings,
-    grain: u32,
-) -> Result<(Shared<StepTruth>, Seat<StepTruth>), WantMemory>
-    requires { IsFromTo 1 64 grain }
-    ensures of { IfOk result (λ made. IsOf made.0 made.1) }
-    ensures craft { IfOk result (λ made. made.0.truth.g ≡ g.now) }
-    ensures grain { IfOk result (λ made. made.0.truth.grain ≡ grain) }
-{
-    let _level = g.level;
-    Shared::new(alloc, StepTruth { g: *g, grain })
 }
 
 // Seats for all workers.
