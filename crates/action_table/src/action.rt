@@ -41,14 +41,14 @@ impl Action {
     /// The place of the action in the action order, counted from 0.
     pub fn number(self) -> u8
         ensures value { result ≡ number_of self }
-        ensures range { result < 26 }
+        ensures range { result < Self.COUNT }
     {
         self as u8
     }
 
-    /// The action at a place of the action order; none from 26 on.
+    /// The action at a place of the action order; none from `COUNT` on.
     pub fn from_number(n: u8) -> Option<Action>
-        ensures { MatchOption result (26 ≤ n) (λ action. number_of action ≡ n) }
+        ensures { MatchOption result (Self.COUNT ≤ n) (λ action. number_of action ≡ n) }
     {
         match n {
             0 => Some(Action::BasicSynthesis),

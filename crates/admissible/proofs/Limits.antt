@@ -11,7 +11,7 @@ use Rattle.craft_settings.specs.Rules.{is_allowed, cap_of}
 use Rattle.step_rules.specs.Legality.{is_over, IsWithin, IsAllowedNow}
 use Rattle.step_rules.specs.Macro.{counted}
 use Rattle.step_rules.specs.Step.{progress_after, quality_after, acted_of, settled_of, step_of}
-use Rattle.step_rules.proofs.LegalFacts.{legal_facts}
+use Rattle.step_rules.proofs.LegalFacts.{legal_facts, effects_allow}
 use Rattle.relaxed_moves.specs.Budget.{rho_of, slack_of, cost_of, potential_of}
 use Rattle.relaxed_moves.specs.Moves.{RelaxedFields, AreRelaxed, IsNoBetter, is_listed, is_move_of, unit_of, relax_of, move_gain_of, move_progress, move_on_of}
 use Rattle.relaxed_moves.specs.Places.{most_moves}
@@ -52,7 +52,7 @@ pub record Later (g : SettingsFields) (grain : ℕ) (s : StateFields) (a : Actio
   pub low : 1 ≤ grain
 
 later-opens : (g : SettingsFields) (grain : ℕ) (s : StateFields) (a : Action) → Later g grain s a → opens a ≡ false
-later-opens g grain s a later = opens-not s.effects a later.first (legal_facts g s a later.step.legal).effects
+later-opens g grain s a later = opens-not s.effects a later.first (effects_allow g s a (legal_facts g s a later.step.legal))
 
 positive-unit : (g : SettingsFields) (grain : ℕ) (s : StateFields) (a : Action) → Later g grain s a → 0 < unit_of g grain
 positive-unit g grain s a later = unit_positive g grain later.step.within.settings later.low
@@ -81,7 +81,7 @@ law-step price g grain budget budget' s a priced later paid less =
     let bounds : AreRelaxed (relax_of g grain s) = AreRelaxed-relax g grain s later.step.within.effects in
     elim (is_listed g a) as (λ b. is_listed g a ≡ b → option_le (option_map (λ n. move_gain_of g (relax_of g grain s) a + n) (best_plan price g grain budget' (relax_of g grain (step_of g s a)))) (best_plan price g grain budget (relax_of g grain s))) [
       | true ↦ λ listed.
-          law-move price g grain budget budget' (relax_of g grain s) (relax_of g grain (step_of g s a)) a priced positive (moves-legal g grain s a facts.effects listed) (paid listed) (move-law g grain s a later) bounds
+          law-move price g grain budget budget' (relax_of g grain s) (relax_of g grain (step_of g s a)) a priced positive (moves-legal g grain s a (effects_allow g s a facts) listed) (paid listed) (move-law g grain s a later) bounds
       | false ↦ λ rest.
           law-rest price g grain budget budget' (relax_of g grain s) (relax_of g grain (step_of g s a)) a priced positive (rest-gain g (relax_of g grain s) a (allowed-now g s a facts) rest (later-opens g grain s a later)) less (rest-law g grain s a later rest) bounds
     ] refl
@@ -231,13 +231,13 @@ pub last-facts : (g : SettingsFields) (grain : ℕ) (s : StateFields) (a : Actio
 last-facts g grain s a last =
     let facts : IsAllowedNow g s a = legal_facts g s a last.step.legal in
     let allowed : is_allowed g a ≡ true = allowed-now g s a facts in
-    let later : opens a ≡ false = opens-not s.effects a last.first facts.effects in
+    let later : opens a ≡ false = opens-not s.effects a last.first (effects_allow g s a facts) in
     let positive : 0 < unit_of g grain = unit_positive g grain last.step.within.settings last.low in
     let parts = step-parts g s a in
     let done : progress_after g s a ≡ g.progress = sym parts.0 ∙ all_done _ _ last.step.done in
     let some : nat_lt 0 (row_of a g.level).progress ≡ true = made_progress _ _ _ _ done (or_none (s.progress == g.progress) (s.durability == 0) facts.live).0 in
     record {
-      may = moves-legal g grain s a facts.effects (listed-by g a allowed some later);
+      may = moves-legal g grain s a (effects_allow g s a facts) (listed-by g a allowed some later);
       paid = last-paid g s a last.step.within facts allowed some;
       bucket = last-bucket g grain s a positive (omega (arith, done));
       quality = rw parts.1 (quality-le g grain s a later);

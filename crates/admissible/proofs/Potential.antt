@@ -12,7 +12,7 @@ use Rattle.craft_settings.specs.Rules.{is_allowed}
 use Rattle.combo_effects.specs.Combos.{is_on, cp_cost_of, tick_of, after_of}
 use Rattle.step_rules.specs.Legality.{is_over, effect_reason, IsAllowedNow}
 use Rattle.step_rules.specs.Step.{wear_at, acted_of, settled_of, step_of}
-use Rattle.step_rules.proofs.LegalFacts.{legal_facts}
+use Rattle.step_rules.proofs.LegalFacts.{legal_facts, effects_allow}
 use Rattle.relaxed_moves.specs.Budget.{rho_of, sigma_of, slack_of, is_spent, wear_cost, cost_of, potential_of}
 use Rattle.relaxed_moves.specs.Moves.{is_listed}
 use Rattle.admissible.specs.Laws.{GoesOn}
@@ -153,7 +153,7 @@ potential-step g s a step =
     let full : (acted_of g s a).durability ≤ g.durability = omega (arith, parts.0, step.within.durability) in
     let some : 5 ≤ (acted_of g s a).durability = omega (arith, parts.0, lasts.1) in
     let fives : (acted_of g s a).durability % 5 ≡ 0 = rw parts.0 (fives_less s.durability (wear_at g s a) step.within.state.fives (wear_fives g s a) lasts.0) in
-    let settled = strength-settled g s.effects a (acted_of g s a) full some fives (sym parts.1) (ready-acted g s a facts.effects) in
+    let settled = strength-settled g s.effects a (acted_of g s a) full some fives (sym parts.1) (ready-acted g s a (effects_allow g s a facts)) in
     let waste = waste-settled g s.effects a (acted_of g s a) parts.2 in
     let cp = settled-cp g s.effects a (acted_of g s a) in
     let combo = combo_cost a g.level s.effects.combo in

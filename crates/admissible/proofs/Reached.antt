@@ -84,11 +84,11 @@ potential-any g s a within legal =
       | false ↦ λ e. potential_falls g s a record { within = within; legal = legal; live = e }
     ] refl
 
-ran : (b : Bool) (o : Option StateFields) (t : StateFields) → (if b then o else None) ≡ Some t → (b ≡ true) × (o ≡ Some t)
+pub ran : (b : Bool) (o : Option StateFields) (t : StateFields) → (if b then o else None) ≡ Some t → (b ≡ true) × (o ≡ Some t)
 ran true o t h = (refl, h)
 ran false o t h = absurd (cc)
 
-same_state : (s t : StateFields) → Some s ≡ Some t → s ≡ t
+pub same_state : (s t : StateFields) → Some s ≡ Some t → s ≡ t
 same_state s t h = cc
 
 pub potential-run : (g : SettingsFields) (s t : StateFields) (m : List Action) → IsWithin g s → run_of g s m ≡ Some t → potential_of g t ≤ potential_of g s
@@ -128,7 +128,7 @@ pub first-macro : (g : SettingsFields) (s t : StateFields) (m : List Action) →
 first-macro g s t [] some h = absurd (omega arith)
 first-macro g s t (a ∷ m) some h = first-run g s t a m h
 
-complete_over : (c d : Bool) → c ≡ true → (c || d) ≡ false → ⊥
+pub complete_over : (c d : Bool) → c ≡ true → (c || d) ≡ false → ⊥
 complete_over c d h k = cc
 
 -- a craft that is over goes no further

@@ -6,11 +6,11 @@ pub record Filled (before now : Option (List ℕ)) (old new reads reads' at room
   pub kept : length buf ≡ room
   pub within : at ≤ room
   pub bytes : Consumes before now (take at buf)
-  pub later : old ≤ new
+  pub quiet : new ≡ old
   pub counted : reads ≤ reads'
   pub each : reads' ≤ reads + at
 
 pub record Written (before now : Option (List ℕ)) (old new at : ℕ) (piece : List ℕ) : Type 0 where
   pub within : at ≤ length piece
   pub bytes : Appends before now (take at piece)
-  pub later : old ≤ new
+  pub quiet : new ≡ old

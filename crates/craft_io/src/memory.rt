@@ -2,7 +2,7 @@
 ghost use Rattle.std.specs.Prelude.{◌≡◌, ◌≤◌, ◌<◌, ◌+◌, ◌-◌, ◌++◌, ◌↔◌, ◌⊎◌, length, take, min, IsErr, IfOk, OnErr, Contains, Some};
 ghost use Rattle.std.specs.Io.{ReadsAtMost};
 ghost use Rattle.std.specs.Io.KnownBytes.{Appends, Keeps, ReadConsumes};
-ghost use Rattle.craft_io.specs.Causes.{CountsFault, CountsRead, HasCause, next_count};
+ghost use Rattle.craft_io.specs.Causes.{CountsFault, CountsRead, most_count, next_count};
 
 use crate::{Failed, Sink, Source};
 
@@ -16,6 +16,7 @@ pub struct MemorySource<'a> {
     reads: u64,
     faults: u64,
     ghost moves: { 1 ≤ piece },
+    ghost counts: { (faults ≤ most_count) × (reads ≤ most_count) },
 }
 
 impl<'a> MemorySource<'a> {
@@ -51,9 +52,8 @@ impl<'a> Source for MemorySource<'a> {
     fn read(&mut self, buf: &mut [u8]) -> Result<usize, Failed>
         ensures bound { ReadsAtMost result buf.new }
         ensures bytes { ReadConsumes (Some self.old.rest.now) (Some self.new.rest.now) result buf.new }
-        ensures cause { HasCause self.old.faults self.new.faults result }
-        ensures counted { CountsRead self.old.reads self.new.reads result }
-        ensures faulted { CountsFault self.old.faults self.new.faults result }
+        ensures faults { CountsFault self.old.faults self.new.faults result }
+        ensures reads { CountsRead self.old.reads self.new.reads result }
         ensures fails { IsErr result ↔ Contains self.old.fails.now (next_count self.old.calls) }
         ensures count { IfOk result (λ n. n ≡ min self.old.piece (min (length buf.old) (length self.old.rest.now))) }
         ensures calls { self.new.calls ≡ next_count self.old.calls }
@@ -71,6 +71,8 @@ impl<'a> Source for MemorySource<'a> {
         self.reads = self.reads.saturating_add(1);
         Ok(count)
     }
+
+    ghost counts = { λ s. s.counts };
 }
 
 /// Room in memory for bytes that go out.
@@ -84,6 +86,7 @@ pub struct MemorySink<'a> {
     faults: u64,
     ghost moves: { 1 ≤ piece },
     ghost within: { used ≤ length room.now },
+    ghost count: { faults ≤ most_count },
 }
 
 impl<'a> MemorySink<'a> {
@@ -126,8 +129,7 @@ impl<'a> Sink for MemorySink<'a> {
         ensures bound { IfOk result (λ n. (0 < n) × (n ≤ length piece.now)) }
         ensures bytes { IfOk result (λ n. Appends (Some (take self.old.used self.old.room.now)) (Some (take self.new.used self.new.room.now)) (take n piece.now)) }
         ensures kept { OnErr result (Keeps (Some (take self.old.used self.old.room.now)) (Some (take self.new.used self.new.room.now))) }
-        ensures cause { HasCause self.old.faults self.new.faults result }
-        ensures faulted { CountsFault self.old.faults self.new.faults result }
+        ensures faults { CountsFault self.old.faults self.new.faults result }
         ensures fails { IsErr result ↔ (Contains self.old.fails.now (next_count self.old.calls) ⊎ (length self.old.room.now ≤ self.old.used)) }
         ensures count { IfOk result (λ n. n ≡ min self.old.piece (min (length piece.now) (length self.old.room.now - self.old.used))) }
         ensures calls { self.new.calls ≡ next_count self.old.calls }
@@ -143,4 +145,6 @@ impl<'a> Sink for MemorySink<'a> {
         self.used += count;
         Ok(count)
     }
+
+    ghost counts = { λ s. s.count };
 }

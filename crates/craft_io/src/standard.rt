@@ -1,5 +1,7 @@
-// Sources and sinks over the readers and writers of std. They tell nothing of the bytes.
-ghost use Rattle.std.specs.Prelude.{◌≡◌, None};
+// Sources and sinks over the readers and writers of std. A source tells the bytes that its reader tells.
+ghost use Rattle.std.specs.Prelude.{◌≡◌, ◌≤◌, ◌<◌, ℕ, None, IfOk, OnErr, length, take};
+ghost use Rattle.std.specs.Io.KnownBytes.{Appends};
+ghost use Rattle.craft_io.specs.Causes.{CountsFault, most_count};
 
 use crate::{Failed, Sink, Source};
 use std::io::{Read, Write};
@@ -10,12 +12,15 @@ pub struct StdSource<R: Read + Drop> {
     reader: R,
     reads: u64,
     faults: u64,
+    ghost counts: { (faults ≤ most_count) × (reads ≤ most_count) },
 }
 
 impl<R: Read + Drop> StdSource<R> {
     /// No read has been made yet.
     pub fn new(reader: R) -> StdSource<R>
-        ensures { result ≡ record { reader = reader; reads = 0; faults = 0 } }
+        ensures reader { result.reader ≡ reader }
+        ensures reads { result.reads ≡ 0 }
+        ensures faults { result.faults ≡ 0 }
     {
         StdSource {
             reader,
@@ -26,7 +31,7 @@ impl<R: Read + Drop> StdSource<R> {
 }
 
 impl<R: Read + Drop> Source for StdSource<R> {
-    ghost left = { λ _. None };
+    ghost left = { λ s. R.remaining s.reader };
 
     ghost faults = { λ s. s.faults };
 
@@ -44,6 +49,8 @@ impl<R: Read + Drop> Source for StdSource<R> {
             }
         }
     }
+
+    ghost counts = { λ s. s.counts };
 }
 
 /// What a writer of std takes.
@@ -51,12 +58,14 @@ impl<R: Read + Drop> Source for StdSource<R> {
 pub struct StdSink<W: Write + Drop> {
     writer: W,
     faults: u64,
+    ghost count: { faults ≤ most_count },
 }
 
 impl<W: Write + Drop> StdSink<W> {
     /// No write has failed yet.
     pub fn new(writer: W) -> StdSink<W>
-        ensures { result ≡ record { writer = writer; faults = 0 } }
+        ensures writer { result.writer ≡ writer }
+        ensures faults { result.faults ≡ 0 }
     {
         StdSink { writer, faults: 0 }
     }
@@ -68,7 +77,14 @@ impl<W: Write + Drop> Sink for StdSink<W> {
     ghost faults = { λ s. s.faults };
 
     // A writer that takes nothing has failed, and so has one that can't be flushed.
-    fn write(&mut self, piece: &[u8]) -> Result<usize, Failed> {
+    fn write(&mut self, piece: &[u8]) -> Result<usize, Failed>
+        requires { 0 < length piece.now }
+        ensures bound { IfOk result (λ n. (0 < n) × (n ≤ length piece.now)) }
+        ensures faults { CountsFault self.old.faults self.new.faults result }
+        // Where the writer tells its bytes, it has gained those that are said to be taken.
+        ensures passed { IfOk result (λ n. Appends (W.contents self.old.writer) (W.contents self.new.writer) (take n piece.now)) }
+        ensures lost { OnErr result ((n : ℕ) × Appends (W.contents self.old.writer) (W.contents self.new.writer) (take n piece.now)) }
+    {
         if let Ok(count) = self.writer.write(piece)
             && count > 0
             && self.writer.flush().is_ok()
@@ -78,4 +94,6 @@ impl<W: Write + Drop> Sink for StdSink<W> {
         self.faults = self.faults.saturating_add(1);
         Err(Failed)
     }
+
+    ghost counts = { λ s. s.count };
 }

@@ -6,3 +6,4 @@ pub mod ForbidLemmas
 pub mod Unique
 pub mod Places
 pub mod FirstLemmas
+pub mod Accepted

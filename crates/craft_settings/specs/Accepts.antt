@@ -6,7 +6,8 @@ use Rattle.craft_settings.specs.Ranges.{SettingsFields}
 use Rattle.craft_settings.specs.Keys.{level_key, cp_key, durability_key, progress_key, quality_key, initial_quality_key, target_key, backload_key}
 use Rattle.craft_settings.specs.Document.{document}
 use Rattle.craft_settings.specs.Names.{flag_at, is_ruled_out, bit}
-use Rattle.craft_settings.specs.Reading.{number_at, base_progress, base_quality, first_fault, max_length}
+use Rattle.craft_settings.specs.Reading.{number_at, base_progress, base_quality, first_fault, file_fault, max_length}
+use Rattle.craft_settings.specs.declared.fault.SettingsFault.{SettingsFault}
 
 -- the document gives these settings
 pub record Gives (doc : Members) (g : SettingsFields) : Type 0 where
@@ -29,3 +30,13 @@ pub record Accepts (bytes : List ℕ) (g : SettingsFields) : Type 0 where
   pub is_document : document bytes ≡ Some doc
   pub no_fault : first_fault doc ≡ None
   pub gives : Gives doc g
+
+-- the bytes are an accepted file
+pub record IsAccepted (bytes : List ℕ) : Type 0 where
+  pub settings : SettingsFields
+  pub accepts : Accepts bytes settings
+
+-- the bytes have a fault
+pub record HasFault (bytes : List ℕ) : Type 0 where
+  pub fault : SettingsFault
+  pub is : file_fault bytes ≡ Some fault

@@ -8,6 +8,7 @@ mod document;
 mod fault;
 mod forbid;
 mod keys;
+pub mod laws;
 mod numbers;
 mod reader;
 #[cfg(test)]

@@ -1,4 +1,5 @@
-use crate::{SettingsFault, read};
+use crate::{Key, Settings, SettingsFault, allowed, read};
+use action_table::Action;
 use std::alloc::{AllocError, Global};
 use std::test::Fail;
 
@@ -600,4 +601,104 @@ fn not_utf_8(rt: HostRuntime) -> Result<(), Fail> {
     bytes.push(0xFF)?;
     assert!(rt; is_refused(alloc, bytes.as_slice(), "NotToml", "", 0));
     Ok(())
+}
+
+// A crafter of level 50 on a recipe with more quality than counts; Observe and Trained Eye are forbidden.
+const LEVEL_50: Settings = Settings {
+    level: 50,
+    cp: 180,
+    durability: 40,
+    progress: 150,
+    quality: 400,
+    initial: 0,
+    base_progress: 100,
+    base_quality: 100,
+    forbidden: 0x2000008,
+    target: 300,
+    backload: false,
+};
+
+// Actions with whether the level suffices, and whether they are forbidden.
+const AT_LEVEL_50: [(Action, bool, bool); 8] = [
+    (Action::BasicSynthesis, true, false),
+    (Action::MastersMend, true, false),
+    (Action::Observe, true, true),
+    (Action::WasteNotII, true, false),
+    (Action::ByregotsBlessing, true, false),
+    (Action::MuscleMemory, false, false),
+    (Action::TrainedPerfection, false, false),
+    (Action::TrainedEye, false, true),
+];
+
+#[test]
+fn rules_of_level_50(rt: HostRuntime) {
+    for (action, learned, forbidden) in AT_LEVEL_50 {
+        assert_eq!(rt; LEVEL_50.is_learned(action), learned, "{action:?}");
+        assert_eq!(rt; LEVEL_50.is_forbidden(action), forbidden, "{action:?}");
+        assert_eq!(rt;
+            allowed(&LEVEL_50, action),
+            learned && !forbidden,
+            "{action:?}"
+        );
+    }
+    let higher = Settings {
+        level: 80,
+        forbidden: 0,
+        ..LEVEL_50
+    };
+    assert!(rt; allowed(&higher, Action::TrainedEye));
+    assert!(rt; !allowed(&higher, Action::AdvancedTouch));
+}
+
+#[test]
+fn quality_that_counts(rt: HostRuntime) {
+    for (quality, target, cap) in [
+        (400, 300, 300),
+        (400, 400, 400),
+        (400, 100000, 400),
+        (400, 0, 0),
+        (0, 300, 0),
+    ] {
+        let g = Settings {
+            quality,
+            target,
+            ..LEVEL_50
+        };
+        assert_eq!(rt; g.cap(), cap);
+    }
+}
+
+// The keys in the order of the list.
+const PATHS: [&str; 24] = [
+    "version",
+    "crafter",
+    "crafter.level",
+    "crafter.cp",
+    "crafter.craftsmanship",
+    "crafter.control",
+    "recipe",
+    "recipe.durability",
+    "recipe.progress",
+    "recipe.quality",
+    "recipe.initial_quality",
+    "recipe.progress_div",
+    "recipe.quality_div",
+    "recipe.progress_mod",
+    "recipe.quality_mod",
+    "recipe.penalty",
+    "recipe.target",
+    "recipe.trained_eye",
+    "base",
+    "base.progress",
+    "base.quality",
+    "actions",
+    "actions.forbid",
+    "actions.backload",
+];
+
+#[test]
+fn paths_of_keys(rt: HostRuntime) {
+    for place in 0..24 {
+        assert_eq!(rt; Key::new(place).text(), PATHS[usize::from(place)]);
+    }
 }

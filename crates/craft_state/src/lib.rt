@@ -101,3 +101,6 @@ impl Effects {
             + ((self.first as u64) << 27)
     }
 }
+
+#[cfg(test)]
+mod tests;

@@ -32,7 +32,11 @@ is_legal-made g p e c c' d d' q q' action cp durability legal =
     legal_by g (made c' d' p q' e) action record {
       learned = facts.learned;
       free = facts.free;
-      effects = facts.effects;
+      first = facts.first;
+      stacks = facts.stacks;
+      ten = facts.ten;
+      no_waste = facts.no_waste;
+      ready = facts.ready;
       paid = omega (arith, facts.paid, cp);
       live = still_live _ _ _ facts.live durability;
       in_time = facts.in_time;

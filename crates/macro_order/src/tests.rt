@@ -86,3 +86,65 @@ fn only_complete_legal_lists_have_a_score(rt: HostRuntime) {
     assert_eq!(rt; numbers(&g, &[BasicSynthesis, BasicTouch]), None);
     assert_eq!(rt; numbers(&g, &[BasicSynthesis]), Some((0, 1, 3)));
 }
+
+// The seconds of a list that isn't too long.
+fn seconds_in(actions: &[Action]) -> Option<u32> {
+    if actions.len() > 1000 {
+        return None;
+    }
+    Some(seconds(&CRAFT, actions))
+}
+
+// The six actions that take two seconds, and the others, which take three.
+#[test]
+fn seconds_of_lists(rt: HostRuntime) {
+    let rows: [(&[Action], u32); 6] = [
+        (&[], 0),
+        (&[Veneration, BasicSynthesis], 5),
+        (&[Veneration, Innovation, BasicTouch, BasicSynthesis], 10),
+        (
+            &[
+                WasteNot,
+                Veneration,
+                GreatStrides,
+                Innovation,
+                WasteNotII,
+                Manipulation,
+            ],
+            12,
+        ),
+        (
+            &[
+                BasicSynthesis,
+                BasicTouch,
+                MastersMend,
+                Observe,
+                StandardTouch,
+                ByregotsBlessing,
+                MuscleMemory,
+                CarefulSynthesis,
+                PrudentTouch,
+                Reflect,
+            ],
+            30,
+        ),
+        (
+            &[
+                PreparatoryTouch,
+                Groundwork,
+                DelicateSynthesis,
+                AdvancedTouch,
+                PrudentSynthesis,
+                TrainedFinesse,
+                RefinedTouch,
+                ImmaculateMend,
+                TrainedPerfection,
+                TrainedEye,
+            ],
+            30,
+        ),
+    ];
+    for (actions, total) in &rows {
+        assert_eq!(rt; seconds_in(actions), Some(*total));
+    }
+}

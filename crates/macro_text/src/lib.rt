@@ -3,7 +3,7 @@
 
 ghost use Rattle.std.specs.Prelude.{◌≡◌, ℕ, ◌≤◌, ◌++◌, IfOk, OnOk, string_bytes};
 ghost use Rattle.action_table.specs.Table.{row_of};
-ghost use Rattle.macro_text.specs.Blocks.{blocks_of, macro_line, action_line};
+ghost use Rattle.macro_text.specs.Blocks.{blocks_of, block_text, action_line};
 ghost use Rattle.macro_text.specs.Seconds.{seconds_of_action};
 
 use action_table::{Action, WantMemory, row};
@@ -27,26 +27,29 @@ pub fn seconds(action: Action) -> u32
     row(action, LEAST_LEVEL).seconds
 }
 
-/// The text of these actions: for each fifteen of them, and for those left at the end, the line
-/// `macro i` with i from 1 on, and then a line `/ac "Name" <wait.s>` for each action, with its
+/// The text of these actions: they are cut into fifteens, of which the last may have fewer. Each gives a block, the
+/// line `macro i` with i from 1 on, and then a line `/ac "Name" <wait.s>` for each of its actions, with the action's
 /// display name and its seconds. Each line ends with one LF byte.
 pub fn blocks(alloc: Global, actions: &[Action]) -> Result<Vec<u8>, WantMemory>
     ensures { IfOk result (λ text. text.items ≡ blocks_of actions.now) }
 {
     let mut text = String::new(alloc);
-    for (k, action) in actions.iter().enumerate() {
-        if k % BLOCK_LENGTH == 0 {
-            push_macro_line(&mut text, k / BLOCK_LENGTH + 1)?;
-        }
-        push_action_line(&mut text, *action)?;
+    let mut number = 0;
+    for block in actions.chunks(BLOCK_LENGTH) {
+        number += 1;
+        push_block(&mut text, number, block)?;
     }
     Ok(text.into_bytes())
 }
 
-fn push_macro_line(text: &mut String, number: usize) -> Result<(), AllocError>
-    ensures { OnOk result (string_bytes text.new ≡ string_bytes text.old ++ macro_line number) }
+fn push_block(text: &mut String, number: usize, block: &[Action]) -> Result<(), AllocError>
+    ensures { OnOk result (string_bytes text.new ≡ string_bytes text.old ++ block_text number block.now) }
 {
-    writeln!(text, "macro {number}")
+    writeln!(text, "macro {number}")?;
+    for action in block {
+        push_action_line(text, *action)?;
+    }
+    Ok(())
 }
 
 fn push_action_line(text: &mut String, action: Action) -> Result<(), AllocError>

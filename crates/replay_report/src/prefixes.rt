@@ -1,5 +1,5 @@
 // The limits along a macro.
-ghost use Rattle.std.specs.Prelude.{◌≡◌, Some, IfOk, true, false};
+ghost use Rattle.std.specs.Prelude.{◌≡◌, Some, IfOk, OnErr, true, false};
 ghost use Rattle.seat_tables.specs.Seats.{IsOf, StillSees};
 ghost use Rattle.step_rules.specs.Legality.{IsWithin, is_complete, is_over, start_of};
 ghost use Rattle.step_rules.specs.Macro.{Completes, counted};
@@ -18,7 +18,8 @@ use step_rules::{start, step};
 /// reach, at the table's grain, and after the last the quality that counts.
 ///
 /// Table and seat are those of the craft. Each prefix of one action or more that leaves the craft going has a limit,
-/// and no greater potential than the start.
+/// and no greater potential than the start. Room for all limits is taken before the first is asked: refused for
+/// memory the seat is as it was.
 pub fn limits(
     alloc: Global,
     g: &Settings,
@@ -30,15 +31,16 @@ pub fn limits(
     requires of { IsOf shared.now seat.old }
     requires complete { Completes g.now (start_of g.now) actions.now }
     requires limited { AreLimited g.now shared.now.truth.grain actions.now }
+    ensures refused { OnErr result (seat.new ≡ seat.old) }
     ensures limits { IfOk result (λ limits. AreLimits g.now shared.now.truth.grain actions.now limits.items) }
     ensures of { IsOf shared.now seat.new }
     ensures still { StillSees seat.old.view seat.new.view }
 {
-    let mut limits = Vec::new(alloc);
+    let mut limits = Vec::with_capacity(alloc, actions.len())?;
     let mut state = start(g);
     for &action in actions {
         state = step(g, &state, action);
-        limits.push(limit_after(g, shared, seat, &state))?;
+        limits.push_reserved(limit_after(g, shared, seat, &state));
     }
     Ok(limits)
 }

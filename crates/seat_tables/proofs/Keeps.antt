@@ -15,7 +15,7 @@ use Rattle.race_core.specs.Events.{loaded, filled, looked, offered, parted, gone
 use Rattle.race_core.specs.Sound.{IsWordOf, IsMark, IsFloor, IsFilled, Knows, Sound}
 use Rattle.race_core.proofs.Steps.{grows-set, may-at, sound-set, sound-filled, knows-grows, knows-loaded, filling-rises, code-filled, rises-refl, MayStand, knows-looked, knows-parted, sound-offered, mark-offered, sound-new, sound-view, knows-gone, only-one}
 use Rattle.seat_tables.specs.Plays.{loads, puts, looks, offers, parts, taken_in, floor_max}
-use Rattle.seat_tables.specs.Seats.{AtLeast}
+use Rattle.seat_tables.specs.Seats.{AtLeast, WithAllSound}
 use mathlib.Core.Logic.{dite}
 use native.Mathlib.Decide.{dec_le}
 
@@ -233,3 +233,28 @@ module _ {T : Type 0} (size : T → ℕ) (entry : T → ℕ → Entry) (reached 
         floor = floor-max (reached truth) (slice_index s.words 0) v.floor w.floor k.floor l.floor;
         last = k.last;
       })) other gone (knows-gone size entry reached truth s.words)
+
+-- a seen index has its entry's word in all sound words
+pub seen-word : {T : Type 0} (size : T → ℕ) (entry : T → ℕ → Entry) (reached : T → ℕ → Type 0) (truth : T) (v : View T) (index : ℕ) (e : Entry) → index < size truth → v.joined ≡ false → Contains v.seen index → e ≡ entry truth index
+    → WithAllSound size entry reached truth v (λ words. slice_index words (index + 1) ≡ code e)
+seen-word size entry reached truth v index e lt live has is = λ words views place at sound.
+    let k = sound.each place v at live in
+    let there = All-contains (IsFilled words) v.seen index k.seen has in
+    ⊎_elim (λ z. absurd (there z)) (λ same. same ∙ ap code (sym is)) (sound.entries index lt)
+
+-- a mark is not below a number whose quality is a floor
+floor-below : (reached : ℕ → Type 0) (mark n : ℕ) → IsFloor reached mark (quality n) → n ≤ mark
+floor-below reached mark zero h = omega arith
+floor-below reached mark (suc q) h = omega (arith, h.1)
+
+same-found : (m n place : ℕ) (o : Option (ℕ × ℕ)) → o ≡ Some (place, m) → o ≡ Some (place, n) → m ≡ n
+same-found m n place o d e = ap found_word (sym d ∙ e)
+
+-- in all sound words the mark is at least what an offer left
+pub offered-mark : {T : Type 0} (size : T → ℕ) (entry : T → ℕ → Entry) (reached : T → ℕ → Type 0) (truth : T) (v : View T) (n q : ℕ) → v.joined ≡ false → v.floor ≡ quality (max n (1 + q)) → v.last ≡ Some (0, n)
+    → (found : ℕ) → v.last ≡ Some (0, found) → WithAllSound size entry reached truth v (λ words. max found (1 + q) ≤ slice_index words 0)
+offered-mark size entry reached truth v n q live floor last = λ found e words views place at sound.
+    let k = sound.each place v at live in
+    let same : n ≡ found = same-found n found 0 v.last last e in
+    let low : max n (1 + q) ≤ slice_index words 0 = floor-below (reached truth) (slice_index words 0) (max n (1 + q)) (subst (λ f. IsFloor (reached truth) (slice_index words 0) f) floor k.floor) in
+    subst (λ m. max m (1 + q) ≤ slice_index words 0) same low

@@ -1,7 +1,11 @@
 -- What is seen of a table and of a seat, and what a call does.
-use Rattle.std.specs.Prelude.{◌≡◌, ℕ, ◌+◌, ◌≤◌, false, Option, Some, None, Contains}
+use Rattle.std.specs.Prelude.{◌≡◌, ℕ, ◌+◌, ◌≤◌, false, List, Option, Some, None, Contains}
+use mathlib.Core.Option.{some}
+use lib.ListN.{get_elem?}
 use Rattle.atomic_table.specs.Seated.{TableId}
+use Rattle.race_core.specs.declared.entry.Entry.{Entry}
 use Rattle.race_core.specs.declared.view.View.{View}
+use Rattle.race_core.specs.Sound.{Sound}
 
 pub record SharedFields (T : Type 0) : Type 0 where
   pub truth : T
@@ -31,3 +35,8 @@ AtLeast (Some q) (Some p) = p ≤ q
 -- what a seat has seen stays seen
 pub record StillSees {T : Type 0} (before after : View T) : Type 0 where
   pub seen : (index : ℕ) → Contains before.seen index → Contains after.seen index
+
+-- what holds of all words that are sound with this view, whatever the other views are
+abbrev pub WithAllSound : {T : Type 0} → (T → ℕ) → (T → ℕ → Entry) → (T → ℕ → Type 0) → T → View T → (List ℕ → Type 0) → Type 0
+WithAllSound {T} size entry reached truth v holds =
+    (words : List ℕ) (views : List (View T)) (place : ℕ) → get_elem? views place ≡ some v → Sound size entry reached truth words views → holds words

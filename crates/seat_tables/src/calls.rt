@@ -1,9 +1,9 @@
 // The calls on a table. Each call with a seat but `close` makes one step, which the seat's view notes.
-ghost use Rattle.std.specs.Prelude.{◌≡◌, ◌↔◌, ℕ, ◌+◌, ◌<◌, ◌≤◌, [], ◌∷◌, length, slice_index, Some, None, Contains, IsSome, IfSome, IfOk};
+ghost use Rattle.std.specs.Prelude.{◌≡◌, ◌↔◌, ℕ, ◌+◌, ◌<◌, ◌≤◌, [], ◌∷◌, length, max, slice_index, Some, None, Contains, IsSome, IfSome, IfOk};
 ghost use Rattle.race_core.specs.Codes.{code};
 ghost use Rattle.race_core.specs.Events.{loaded, filled, looked, offered, parted, merged, fresh};
 ghost use Rattle.race_core.specs.Sound.{Sound, IsFilled};
-ghost use Rattle.seat_tables.specs.Seats.{IsOf, OneStep, AtLeast, StillSees};
+ghost use Rattle.seat_tables.specs.Seats.{IsOf, OneStep, AtLeast, StillSees, WithAllSound};
 
 use crate::closed::Closed;
 use crate::plays::{Glue, Halves, Loads, Looks, Offers, Parts, Puts};
@@ -48,13 +48,14 @@ impl<T: Truth> Shared<T> {
         Entry::from_word(word)
     }
 
-    /// Fills the word of an index, which is below the truth's size, with the truth's entry, where it is still empty. The seat has then seen the index.
+    /// Fills the word of an index, which is below the truth's size, with the truth's entry, where it is still empty. The seat has then seen the index: as long as the words are sound, its word says the entry.
     pub fn put(&self, seat: &mut Seat<T>, index: usize, entry: Entry)
         requires of { IsOf self.now seat.old }
         requires inside { index < T.size self.now.truth }
         requires entry { entry ≡ T.entry self.now.truth index }
         ensures of { IsOf self.now seat.new }
         ensures step { OneStep (index + 1) (filled index) seat.old.view seat.new.view }
+        ensures word { WithAllSound T.size T.entry T.reached self.now.truth seat.new.view (λ words. slice_index words (index + 1) ≡ code entry) }
         ensures seen { Contains seat.new.view.seen index }
         ensures still { StillSees seat.old.view seat.new.view }
         ensures floor { seat.new.view.floor ≡ seat.old.view.floor }
@@ -81,12 +82,13 @@ impl<T: Truth> Shared<T> {
         quality_of_mark(mark)
     }
 
-    /// Raises the mark to a reached quality, where it is lower. The seat's floor is then the mark's quality.
+    /// Raises the mark to a reached quality, where it is lower. The seat's floor is then the mark's quality: as long as the words are sound, the mark is at least the greater of the two.
     pub fn offer(&self, seat: &mut Seat<T>, quality: u32)
         requires of { IsOf self.now seat.old }
         requires reached { T.reached self.now.truth quality }
         ensures of { IsOf self.now seat.new }
         ensures step { OneStep 0 (offered (1 + quality)) seat.old.view seat.new.view }
+        ensures mark { (found : ℕ) → seat.new.view.last ≡ Some (0, found) → WithAllSound T.size T.entry T.reached self.now.truth seat.new.view (λ words. max found (1 + quality) ≤ slice_index words 0) }
         ensures floor { (q : ℕ) × (seat.new.view.floor ≡ Some q) × T.reached self.now.truth q × (quality ≤ q) }
         ensures kept { AtLeast seat.new.view.floor seat.old.view.floor }
         ensures still { StillSees seat.old.view seat.new.view }

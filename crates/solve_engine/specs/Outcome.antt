@@ -1,10 +1,10 @@
 -- What a run did to its source and its sinks.
-use Rattle.std.specs.Prelude.{ℕ, ◌≡◌, ◌≢◌, ◌<◌, ◌≤◌, ◌⊎◌, List, length, take, Option, Some, ⊤, Bool, true, false}
+use Rattle.std.specs.Prelude.{ℕ, ◌≡◌, ◌≢◌, ◌<◌, ◌≤◌, ◌⊎◌, List, length, take, Option, Some, Result, Ok, Err, ⊤, Bool, true, false}
 use Rattle.std.specs.Io.KnownBytes.{Appends, Consumes, IsAtEnd}
-use Rattle.craft_io.specs.Causes.{Rose}
+use Rattle.craft_io.specs.Causes.{Rose, next_count}
 use Rattle.craft_settings.specs.Ranges.{SettingsFields}
 use Rattle.craft_settings.specs.Accepts.{Accepts}
-use Rattle.craft_settings.specs.Reading.{file_fault}
+use Rattle.craft_settings.specs.Reading.{file_fault, max_length}
 use Rattle.craft_settings.specs.declared.fault.SettingsFault.{SettingsFault}
 use Rattle.craft_settings.specs.declared.fault.SettingsFault.TheVariants.{TooLong}
 use Rattle.macro_order.specs.Order.{NothingCompletes}
@@ -94,13 +94,18 @@ pub record Answers (given : Words) (left left' : Option (List ℕ)) (text : List
   pub is : IsAnswerText given settings text solved
 
 -- why no text came; only a command that reads has the first two
-abbrev pub Halts : Command → Halt → Option (List ℕ) → Option (List ℕ) → ℕ → ℕ → Type 0
-Halts command ReadFault left left' faults faults' = Rose faults faults' × (command ≡ Solve)
-Halts command (Refused line) left left' faults faults' = (fault : SettingsFault) × ReadsFault fault left left' × (line.items ≡ settings_line fault) × (command ≡ Solve)
-Halts command WantMemory left left' faults faults' = ⊤
+abbrev pub Halts : Command → Halt → Option (List ℕ) → Option (List ℕ) → Type 0
+Halts command ReadFault left left' = TakesAtMost max_length left left' × (command ≡ Solve)
+Halts command (Refused line) left left' = (fault : SettingsFault) × ReadsFault fault left left' × (line.items ≡ settings_line fault) × (command ≡ Solve)
+Halts command WantMemory left left' = ⊤
 
--- why no bytes came
-abbrev pub HaltsReading : Halt → ℕ → ℕ → Type 0
-HaltsReading ReadFault faults faults' = Rose faults faults'
-HaltsReading (Refused line) faults faults' = ⊥
-HaltsReading WantMemory faults faults' = ⊤
+-- why no bytes came: where a read failed, fewer than so many were taken
+abbrev pub HaltsReading : ℕ → Halt → Option (List ℕ) → Option (List ℕ) → Type 0
+HaltsReading most ReadFault left left' = (bytes : List ℕ) × (length bytes < most) × Consumes left left' bytes
+HaltsReading most (Refused line) left left' = ⊥
+HaltsReading most WantMemory left left' = ⊤
+
+-- a read fault is counted once, and every other end leaves the count as it was
+abbrev pub CountsHalt : {T : Type 0} → Result T Halt → ℕ → ℕ → Type 0
+CountsHalt (Err ReadFault) faults faults' = faults' ≡ next_count faults
+CountsHalt _ faults faults' = faults' ≡ faults

@@ -1,7 +1,8 @@
 -- What each status says of the source and the sinks.
-use Rattle.std.specs.Prelude.{ℕ, List, Option, ⊤}
+use Rattle.std.specs.Prelude.{ℕ, ◌≡◌, ◌+◌, List, Option, Some, length, ⊤}
 use Rattle.std.specs.Io.KnownBytes.{Appends}
 use Rattle.action_table.specs.declared.action.Action.{Action}
+use Rattle.craft_io.specs.Causes.{next_count}
 use Rattle.craft_settings.specs.Ranges.{SettingsFields}
 use Rattle.craft_settings.specs.Accepts.{Accepts}
 use Rattle.craft_settings.specs.declared.fault.SettingsFault.{SettingsFault}
@@ -66,3 +67,18 @@ abbrev pub IsRefusal : Status → Type 0
 IsRefusal BadSettings = ⊤
 IsRefusal WantMemory = ⊤
 IsRefusal _ = ⊥
+
+-- a failed read is told and counted once, and every other status leaves the source's count as it was
+abbrev pub CountsReadFault : Status → ℕ → ℕ → Type 0
+CountsReadFault ReadFault faults faults' = faults' ≡ next_count faults
+CountsReadFault _ faults faults' = faults' ≡ faults
+
+-- a failed write is told and counted once, and every other status leaves the sink's count as it was
+abbrev pub CountsWriteFault : Status → ℕ → ℕ → Type 0
+CountsWriteFault WriteFault faults faults' = faults' ≡ next_count faults
+CountsWriteFault _ faults faults' = faults' ≡ faults
+
+-- so many bytes were taken, where they are told
+abbrev pub TakesTold : ℕ → Option (List ℕ) → Option (List ℕ) → Type 0
+TakesTold count (Some before) (Some after) = length before ≡ count + length after
+TakesTold count _ _ = ⊥

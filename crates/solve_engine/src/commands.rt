@@ -1,5 +1,5 @@
 // What each command does.
-ghost use Rattle.std.specs.Prelude.{◌≡◌, ◌≢◌, ◌+◌, ℕ, List, Some, IfOk, IfErr, IfSome};
+ghost use Rattle.std.specs.Prelude.{◌≡◌, ◌≢◌, ℕ, List, Some, IfOk, IfErr, IfSome};
 ghost use Rattle.craft_io.specs.Causes.{ReadsAtMostTimes, Rose};
 ghost use Rattle.craft_settings.specs.Ranges.{SettingsFields};
 ghost use Rattle.craft_settings.specs.Accepts.{Accepts};
@@ -7,8 +7,8 @@ ghost use Rattle.craft_settings.specs.Reading.{file_fault};
 ghost use Rattle.craft_settings.specs.declared.fault.SettingsFault.{SettingsFault};
 ghost use Rattle.sample_craft.specs.Sample.{sample_of};
 ghost use Rattle.solve_words.specs.Words.{AreInRange, HasSample};
-ghost use Rattle.solve_engine.specs.Told.{AnswersFor, AnswersSample, HasText, IsAnswerTo, IsBeforeWriting, IsRefusal, TellsFault};
-ghost use Rattle.solve_engine.specs.Outcome.{Answers, Halts, IsAbout, ReadsFault, TakesAtMost, Tells, WritesBest, WritesNone, WritesPart, read_most};
+ghost use Rattle.solve_engine.specs.Told.{AnswersFor, AnswersSample, CountsReadFault, CountsWriteFault, HasText, IsAnswerTo, IsBeforeWriting, IsRefusal, TakesTold, TellsFault};
+ghost use Rattle.solve_engine.specs.Outcome.{Answers, CountsHalt, Halts, IsAbout, ReadsFault, TakesAtMost, Tells, WritesBest, WritesNone, WritesPart, read_most};
 
 use crate::Status;
 use crate::reading::{Halt, read_settings};
@@ -23,8 +23,8 @@ use worker_gate::Gate;
 
 /// Writes the text that the words ask for: that of the best macro, or that for none. `solve` reads its settings from
 /// the source, and `sample` reads nothing.
-pub(crate) fn carry_out<R: Threads + Sync, S: Source, O: Sink, E: Sink, G: Gate>(
-    rt: &R,
+pub(crate) fn carry_out<S: Source, O: Sink, E: Sink, G: Gate>(
+    rt: &(impl Threads + Sync),
     alloc: Global,
     given: &Words,
     source: &mut S,
@@ -43,13 +43,15 @@ pub(crate) fn carry_out<R: Threads + Sync, S: Source, O: Sink, E: Sink, G: Gate>
         → IfSome (S.left source.old) (λ bytes. (fault : SettingsFault) → file_fault bytes ≡ Some fault → IsRefusal result) }
     ensures sampled { (n : ℕ) → given.now.command ≡ Command.Sample n → HasText result → AnswersSample n given.now.grain result (O.taken out.old) (O.taken out.new) }
     ensures sample_complete { (n : ℕ) → given.now.command ≡ Command.Sample n → (Rose (O.faults out.old) (O.faults out.new) → ⊥) → IsAnswerTo (sample_of n) result }
-    ensures read_fault { result ≡ Status.ReadFault → Rose (S.faults source.old) (S.faults source.new) × (given.now.command ≡ Command.Solve) }
+    ensures read_fault { result ≡ Status.ReadFault → given.now.command ≡ Command.Solve }
+    ensures read_count { CountsReadFault result (S.faults source.old) (S.faults source.new) }
+    ensures write_count { CountsWriteFault result (O.faults out.old) (O.faults out.new) }
+    ensures too_long { TakesTold read_most (S.left source.old) (S.left source.new) → IsRefusal result }
     ensures bad_settings { result ≡ Status.BadSettings → (fault : SettingsFault) × ReadsFault fault (S.left source.old) (S.left source.new) × (given.now.command ≡ Command.Solve) }
-    ensures write_fault { result ≡ Status.WriteFault → Rose (O.faults out.old) (O.faults out.new) }
     ensures part { result ≡ Status.WriteFault → WritesPart given.now (S.left source.old) (S.left source.new) (O.taken out.old) (O.taken out.new) }
     ensures nothing_read { (n : ℕ) → given.now.command ≡ Command.Sample n → source.new ≡ source.old }
     ensures at_most { TakesAtMost read_most (S.left source.old) (S.left source.new) }
-    ensures times { ReadsAtMostTimes (read_most + 1) (S.reads source.old) (S.reads source.new) }
+    ensures times { ReadsAtMostTimes read_most (S.reads source.old) (S.reads source.new) }
     ensures nothing_written { IsBeforeWriting result → out.new ≡ out.old }
     ensures told { TellsFault result (S.left source.old) (S.left source.new) (E.taken err.old) (E.taken err.new) (E.faults err.old) (E.faults err.new) }
     ensures quiet { HasText result → err.new ≡ err.old }
@@ -81,8 +83,8 @@ pub(crate) fn carry_out<R: Threads + Sync, S: Source, O: Sink, E: Sink, G: Gate>
 }
 
 // The text for the settings that the command is about.
-fn answer_to<R: Threads + Sync, S: Source, G: Gate>(
-    rt: &R,
+fn answer_to<S: Source, G: Gate>(
+    rt: &(impl Threads + Sync),
     alloc: Global,
     given: &Words,
     source: &mut S,
@@ -90,10 +92,11 @@ fn answer_to<R: Threads + Sync, S: Source, G: Gate>(
 ) -> Result<Answer, Halt>
     requires { AreInRange given.now }
     ensures answers { IfOk result (λ a. Answers given.now (S.left source.old) (S.left source.new) a.text.items a.solved) }
-    ensures halts { IfErr result (λ h. Halts given.now.command h (S.left source.old) (S.left source.new) (S.faults source.old) (S.faults source.new)) }
+    ensures halts { IfErr result (λ h. Halts given.now.command h (S.left source.old) (S.left source.new)) }
+    ensures faults { CountsHalt result (S.faults source.old) (S.faults source.new) }
     ensures nothing_read { (n : ℕ) → given.now.command ≡ Command.Sample n → source.new ≡ source.old }
     ensures at_most { TakesAtMost read_most (S.left source.old) (S.left source.new) }
-    ensures times { ReadsAtMostTimes (read_most + 1) (S.reads source.old) (S.reads source.new) }
+    ensures times { ReadsAtMostTimes read_most (S.reads source.old) (S.reads source.new) }
 {
     let settings = settings_for(alloc, given.command, source)?;
     Ok(answer_of(rt, alloc, &settings, given, gate)?)
@@ -107,10 +110,11 @@ fn settings_for<S: Source>(
 ) -> Result<Settings, Halt>
     requires { HasSample command }
     ensures about { IfOk result (λ g. IsAbout command g (S.left source.old) (S.left source.new)) }
-    ensures halts { IfErr result (λ h. Halts command h (S.left source.old) (S.left source.new) (S.faults source.old) (S.faults source.new)) }
+    ensures halts { IfErr result (λ h. Halts command h (S.left source.old) (S.left source.new)) }
+    ensures faults { CountsHalt result (S.faults source.old) (S.faults source.new) }
     ensures nothing_read { (n : ℕ) → command ≡ Command.Sample n → source.new ≡ source.old }
     ensures at_most { TakesAtMost read_most (S.left source.old) (S.left source.new) }
-    ensures times { ReadsAtMostTimes (read_most + 1) (S.reads source.old) (S.reads source.new) }
+    ensures times { ReadsAtMostTimes read_most (S.reads source.old) (S.reads source.new) }
 {
     match command {
         Command::Solve => read_settings(alloc, source),

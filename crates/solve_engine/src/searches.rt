@@ -29,8 +29,8 @@ pub(crate) struct Found {
 }
 
 /// The best macro of a craft by 1 to 64 workers, over bounds at a grain, or None where no legal macro completes it.
-pub(crate) fn find<R: Threads + Sync, G: Gate>(
-    rt: &R,
+pub(crate) fn find<G: Gate>(
+    rt: &(impl Threads + Sync),
     alloc: Global,
     g: &Settings,
     grain: u32,

@@ -146,6 +146,19 @@ replay
   3 Basic Synthesis         200    100   0   18    100
 ";
 
+// The quality that counts is capped at the target.
+const TARGET_LIMITS: &str = "steps 3 seconds 9 progress 100/100 quality 210/500
+kept 3
+macro 1
+/ac \"Basic Touch\" <wait.3>
+/ac \"Basic Touch\" <wait.3>
+/ac \"Basic Synthesis\" <wait.3>
+replay
+  1 Basic Touch               0    100  20   18    150
+  2 Basic Touch               0    210  10    0    150
+  3 Basic Synthesis         100    210   0    0    150
+";
+
 const PERFECTION: &str = "steps 2 seconds 6 progress 360/360 quality 0/0
 kept 6
 macro 1
@@ -450,7 +463,17 @@ fn styles(rt: HostRuntime) -> Result<(), Fail> {
     let file = craft(rt.alloc(), [11, 36, 30, 200, 500])?;
     let words = ["solve", "--report=limits", "--grain", "1"];
     let want = (Status::Solved, COARSE_LIMITS.as_bytes(), "");
-    gives(&rt, &words, file.as_bytes(), SOUND, want)
+    gives(&rt, &words, file.as_bytes(), SOUND, want)?;
+    let file = craft(rt.alloc(), [11, 36, 30, 100, 500])?;
+    let file = file.replace(rt.alloc(), "= 500", "= 500\ntarget = 150")?;
+    let want = (Status::Solved, TARGET_LIMITS.as_bytes(), "");
+    gives(
+        &rt,
+        &["solve", "--report=limits"],
+        file.as_bytes(),
+        SOUND,
+        want,
+    )
 }
 
 const ORDINARY_FILE: &str = "[crafter]
@@ -495,6 +518,22 @@ fn number_of_workers(rt: HostRuntime) -> Result<(), Fail> {
     for workers in ["--workers=1", "--workers=2", "--workers=4", "--workers=64"] {
         let words = ["solve", workers, "--report=levels"];
         let want = (Status::Solved, ORDINARY.as_bytes(), "");
+        gives(&rt, &words, ORDINARY_FILE.as_bytes(), SOUND, want)?;
+    }
+    Ok(())
+}
+
+const ORDINARY_LEVELS: &str =
+    "level 0 1\nlevel 1 4\nlevel 2 14\nlevel 3 33\nlevel 4 43\nlevel 5 8\n";
+
+// The grain changes the count alone.
+#[test]
+fn grains(rt: HostRuntime) -> Result<(), Fail> {
+    let plain = ORDINARY.replace(rt.alloc(), ORDINARY_LEVELS, "")?;
+    for (grain, kept) in [("8", "kept 547\n"), ("32", "kept 103\n")] {
+        let text = plain.replace(rt.alloc(), "kept 103\n", kept)?;
+        let want = (Status::Solved, text.as_bytes(), "");
+        let words = ["solve", "--grain", grain];
         gives(&rt, &words, ORDINARY_FILE.as_bytes(), SOUND, want)?;
     }
     Ok(())

@@ -28,8 +28,8 @@ pub(crate) struct Answer {
 }
 
 /// The text of the best macro, or that for none where no legal macro completes, as the words ask for it.
-pub(crate) fn answer_of<R: Threads + Sync, G: Gate>(
-    rt: &R,
+pub(crate) fn answer_of<G: Gate>(
+    rt: &(impl Threads + Sync),
     alloc: Global,
     g: &Settings,
     given: &Words,

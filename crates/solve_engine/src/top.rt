@@ -1,5 +1,5 @@
 // The top call.
-ghost use Rattle.std.specs.Prelude.{◌≡◌, ◌≢◌, ◌↔◌, ◌⊎◌, ◌+◌, Some, IfSome};
+ghost use Rattle.std.specs.Prelude.{◌≡◌, ◌≢◌, ◌↔◌, ◌⊎◌, Some, IfSome};
 ghost use Rattle.craft_io.specs.Causes.{ReadsAtMostTimes, Rose};
 ghost use Rattle.craft_settings.specs.Ranges.{SettingsFields};
 ghost use Rattle.craft_settings.specs.Accepts.{Accepts};
@@ -8,7 +8,7 @@ ghost use Rattle.craft_settings.specs.declared.fault.SettingsFault.{SettingsFaul
 ghost use Rattle.sample_craft.specs.Sample.{sample_of};
 ghost use Rattle.solve_words.specs.declared.words.Words.{Words as WordsFields};
 ghost use Rattle.solve_engine.specs.Words.{AreBad, Ask, AskToSample, AskToSolve};
-ghost use Rattle.solve_engine.specs.Told.{AnswersFor, AnswersSample, HasText, IsAnswerTo, IsBeforeWriting, IsRefusal, TellsFault};
+ghost use Rattle.solve_engine.specs.Told.{AnswersFor, AnswersSample, CountsReadFault, CountsWriteFault, HasText, IsAnswerTo, IsBeforeWriting, IsRefusal, TakesTold, TellsFault};
 ghost use Rattle.solve_engine.specs.Outcome.{ReadsFault, TakesAtMost, WritesBest, WritesNone, WritesPart, read_most};
 
 use crate::Status;
@@ -26,8 +26,8 @@ use worker_gate::Gate;
 /// `none` where no legal macro completes the craft. `sample` reads nothing, and writes two lines on the best macro of
 /// the sample settings of its number. Every other answer comes with a line on `err`. A failure of `err` changes
 /// nothing, and neither the number of workers nor the gate does.
-pub fn run<R: Threads + Sync, S: Source, O: Sink, E: Sink, G: Gate>(
-    rt: &R,
+pub fn run<S: Source, O: Sink, E: Sink, G: Gate>(
+    rt: &(impl Threads + Sync),
     alloc: Global,
     words: &[String],
     source: &mut S,
@@ -60,10 +60,16 @@ pub fn run<R: Threads + Sync, S: Source, O: Sink, E: Sink, G: Gate>(
     ensures bad_settings { result ≡ Status.BadSettings → (fault : SettingsFault) × ReadsFault fault (S.left source.old) (S.left source.new) × AskToSolve words.now }
     ensures write_fault { result ≡ Status.WriteFault → Rose (O.faults out.old) (O.faults out.new) }
 
+    // A failed call of the source or of `out` is always told, and none is tried again.
+    ensures read_count { CountsReadFault result (S.faults source.old) (S.faults source.new) }
+    ensures write_count { CountsWriteFault result (O.faults out.old) (O.faults out.new) }
+    // Where one byte too many was read, the settings are refused or memory is wanted, and no read failed.
+    ensures too_long { TakesTold read_most (S.left source.old) (S.left source.new) → IsRefusal result }
+
     // What was read and written.
     ensures nothing_read { AreBad words.now ⊎ AskToSample words.now → source.new ≡ source.old }
     ensures at_most { TakesAtMost read_most (S.left source.old) (S.left source.new) }
-    ensures times { ReadsAtMostTimes (read_most + 1) (S.reads source.old) (S.reads source.new) }
+    ensures times { ReadsAtMostTimes read_most (S.reads source.old) (S.reads source.new) }
     ensures part { result ≡ Status.WriteFault → (given : WordsFields) × Ask words.now given × WritesPart given (S.left source.old) (S.left source.new) (O.taken out.old) (O.taken out.new) }
     ensures nothing_written { IsBeforeWriting result → out.new ≡ out.old }
 

@@ -9,6 +9,7 @@ ghost use Rattle.solve_words.specs.Form.{given_in, is_stray as stray};
 ghost use Rattle.solve_words.specs.Words.{AreInRange, FindsOptions, HasSample, after_sample, words_with, words_of};
 
 mod fault;
+pub mod laws;
 #[cfg(test)]
 mod tests;
 mod values;

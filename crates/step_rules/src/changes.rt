@@ -38,7 +38,7 @@ fn next_state(g: &Settings, s: &State, action: Action) -> State
 }
 
 // The price, the wear, the quality and the progress.
-#[tactic(auto, unfolding(crate::specs::Step::acted_of, crate::specs::Legality::reason_of))]
+#[tactic(auto, unfolding(crate::specs::Step::acted_of))]
 fn act(g: &Settings, s: &State, action: Action) -> State
     requires legal { IsTrue (is_legal g.now s.now action) }
     requires within { IsWithin g.now s.now }

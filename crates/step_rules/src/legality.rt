@@ -3,7 +3,7 @@ ghost use Rattle.std.specs.Result.{result_err};
 ghost use Rattle.action_table.specs.Table.{all_actions};
 ghost use Rattle.craft_settings.specs.Ranges.{SettingsFields};
 ghost use Rattle.step_rules.specs.Measure.{measure, most_steps};
-ghost use Rattle.step_rules.specs.Legality.{start_of, is_complete, is_over, is_legal, effect_reason, late_reason, reason_of, IsWithin};
+ghost use Rattle.step_rules.specs.Legality.{start_of, is_complete, is_over, is_legal, effect_reason, late_reason, reason_of, found_reason, IsWithin};
 
 use action_table::{Action, row};
 use combo_effects::cp_cost;
@@ -75,24 +75,31 @@ pub fn is_final(g: &Settings, s: &State) -> bool
 }
 
 /// Whether an action is legal, and else the first reason why it isn't.
-#[tactic(auto, unfolding(crate::specs::Legality::reason_of))]
 pub fn check(g: &Settings, s: &State, action: Action) -> Result<(), Illegal>
     ensures legal { is_ok result ≡ is_legal g.now s.now action }
     ensures reason { result_err result ≡ reason_of g.now s.now action }
 {
+    match reason(g, s, action) {
+        Some(why) => Err(why),
+        None => Ok(()),
+    }
+}
+
+// The first reason why an action isn't legal.
+#[tactic(auto, unfolding(crate::specs::Legality::found_reason))]
+fn reason(g: &Settings, s: &State, action: Action) -> Option<Illegal>
+    ensures { result ≡ found_reason g.now s.now action }
+{
     if !g.is_learned(action) {
-        return Err(Illegal::NotLearned);
+        return Some(Illegal::NotLearned);
     }
     if g.is_forbidden(action) {
-        return Err(Illegal::Forbidden);
+        return Some(Illegal::Forbidden);
     }
     if let Some(why) = reason_of_effects(&s.effects, action) {
-        return Err(why);
+        return Some(why);
     }
-    if let Some(why) = last_reason(g, s, action) {
-        return Err(why);
-    }
-    Ok(())
+    last_reason(g, s, action)
 }
 
 // Why the effects don't allow an action.

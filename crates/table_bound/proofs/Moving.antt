@@ -48,7 +48,7 @@ next_bucket r x action b rules within =
     ∙ sym (ap (λ (y : RelaxedFields). at_bucket y (b - (r.grain - y.bucket))) top)
 
 pub leads_down : (r : BoundRules) (budget : ℕ) (x : RelaxedFields) (action : Action) (price gain : ℕ) (next : RelaxedFields) → AreBoundRules r → AreRelaxed next
-    → is_move_of r.g x action ≡ true → price ≡ r.price action → 1 ≤ price → price ≤ budget → gain ≤ 100000
+    → is_move_of r.g x action ≡ true → price ≡ r.price action → r.least ≤ price → price ≤ budget → gain ≤ 100000
     → gain ≡ move_gain_of r.g (at_bucket x r.grain) action → next ≡ move_on_of r.g r.grain (at_bucket x r.grain) action
     → LeadsDown r budget x action (budget - price) gain (r.grain - next.bucket) next
 leads_down r budget x action price gain next rules bounds may price_is low paid small gain_is next_is = record {
@@ -71,7 +71,7 @@ turn_none r budget x action g grain top may g_is top_is may_is fails =
     no_move r budget x action (sym (is_move-column r.g grain x action) ∙ ap (λ y. is_move_of r.g y action) (sym top_is) ∙ ap (λ h. is_move_of h top action) (sym g_is) ∙ sym may_is ∙ fails)
 
 pub turn_some : (r : BoundRules) (budget : ℕ) (x : RelaxedFields) (action : Action) (g : SettingsFields) (grain : ℕ) (top : RelaxedFields) (may : Bool) (price gain : ℕ) (next : RelaxedFields) (bucket : ℕ)
-    → AreBoundRules r → AreRelaxed next → g ≡ r.g → grain ≡ r.grain → top ≡ at_bucket x grain → may ≡ is_move_of g top action → may ≡ true → price ≡ r.price action → 1 ≤ price → price ≤ budget
+    → AreBoundRules r → AreRelaxed next → g ≡ r.g → grain ≡ r.grain → top ≡ at_bucket x grain → may ≡ is_move_of g top action → may ≡ true → price ≡ r.price action → r.least ≤ price → price ≤ budget
     → gain ≡ move_gain_of g top action → gain ≤ 100000 → next ≡ move_on_of g grain top action → bucket ≡ next.bucket
     → LeadsDown r budget x action (budget - price) gain (grain - bucket) next
 turn_some r budget x action g grain top may price gain next bucket rules bounds g_is grain_is top_is may_is holds price_is low paid gain_is small next_is bucket_is =

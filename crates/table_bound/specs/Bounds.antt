@@ -8,11 +8,12 @@ use Rattle.relaxed_moves.specs.Moves.{RelaxedFields}
 use Rattle.relaxed_moves.specs.Optimum.{ArePriced, best_plan}
 use Rattle.relaxed_moves.specs.Places.{most_budget, place_count, first_at, state_at}
 
--- the craft, the grain of its buckets, the price of each move, and the greatest budget of the table
+-- the craft, the grain of its buckets, the price of each move, a number that no price is below, and the greatest budget of the table
 pub record BoundRules : Type 0 where
   pub g : SettingsFields
   pub grain : ℕ
   pub price : Action → ℕ
+  pub least : ℕ
   pub most : ℕ
 
 -- the ranges that the rules of a bound keep
@@ -20,6 +21,7 @@ pub record AreBoundRules (r : BoundRules) : Type 0 where
   pub settings : AreSettings r.g
   pub grain : IsFromTo 1 64 r.grain
   pub priced : ArePriced r.price r.g
+  pub positive : 1 ≤ r.least
   pub most : r.most ≤ most_budget
 
 -- the entry that says an optimum

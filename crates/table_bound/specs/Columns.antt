@@ -44,7 +44,7 @@ pub record LeadsNowhere (r : BoundRules) (budget : ℕ) (x : RelaxedFields) (act
 
 -- the action leads from each bucket to one that is so much lower in the next column, and gains the same in all
 pub record LeadsDown (r : BoundRules) (budget : ℕ) (x : RelaxedFields) (action : Action) (rest gain down : ℕ) (next : RelaxedFields) : Type 0 where
-  pub less : rest < budget
+  pub less : rest + r.least ≤ budget
   pub small : gain ≤ 100000
   pub low : down ≤ r.grain
   pub bounds : AreRelaxed next

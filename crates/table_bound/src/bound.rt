@@ -25,12 +25,12 @@ pub trait Bound: Truth {
         ensures low { 1 ≤ result }
         ensures high { result ≤ 64 };
 
-    /// What a relaxed move takes from the budget, at least 1.
+    /// What a relaxed move takes from the budget, at least the least price of the bound.
     fn price(&self, scale: &Scale, action: Action) -> u32
         requires scale { IsScale (rules self.now).g (rules self.now).grain scale.now }
         requires listed { IsTrue (is_listed (rules self.now).g action) }
         ensures value { result ≡ (rules self.now).price action }
-        ensures low { 1 ≤ result };
+        ensures low { (rules self.now).least ≤ result };
 
     // The laws that each bound proves.
     ghost rules_hold: { (t : Self) → AreBoundRules (rules t) };

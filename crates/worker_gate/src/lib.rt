@@ -1,8 +1,9 @@
 // Workers side by side, and the range of each.
 #![tactic(auto)]
 
-ghost use Rattle.std.specs.Prelude.{◌≡◌, ℕ, ◌+◌, ◌<◌, ◌≤◌, length};
-ghost use Rattle.std.specs.Fork.{AcceptsEach, ChangesEach, AcceptsAt, ChangesAt};
+ghost use Rattle.std.specs.Prelude.{◌≡◌, ℕ, ◌+◌, ◌<◌, ◌≤◌, ⊤, length};
+ghost use Rattle.std.specs.Fork.{ChangesEach, AcceptsAt, ChangesAt};
+ghost use Rattle.worker_gate.specs.Behind.{AcceptsBehind};
 ghost use Rattle.worker_gate.specs.Cut.{cut, CutsOnce};
 
 use std::thread;
@@ -14,8 +15,12 @@ mod tests;
 /// What each worker passes before its work. A gate may hold a worker back, so that a test can
 /// force an order; it changes nothing that the work can see.
 pub trait Gate: Sync {
+    /// What it shows that a worker has passed. Code for any gate has it by a call of `pass` alone.
+    ghost passed: { Self → ℕ → Type 0 } = { λ _ _. ⊤ };
+
     /// Called once by worker `worker`, counted from 0, before its work.
-    fn pass(&self, worker: u32);
+    fn pass(&self, worker: u32)
+        ensures { passed self.now worker };
 }
 
 /// The gate that lets each worker through at once.
@@ -56,23 +61,25 @@ pub fn ranges_law(len: usize, workers: u32)
 
 /// Calls `gate.pass(k)` and then `work(k, &mut workers[k])` once for each place k of 1 to 64
 /// workers, side by side. Where a thread can't be started the caller does its work itself, so
-/// this call can't be refused. Each worker is left as `work` promises of it.
-pub fn each<R: Threads + Sync, W: Send, G: Gate, F: Fn(u32, &mut W) + Sync>(
-    rt: &R,
+/// this call can't be refused. The work of a worker may ask that this worker has passed the gate.
+/// Each worker is left as `work` promises of it.
+pub fn each<W: Send, G: Gate, F: Fn(u32, &mut W) + Sync>(
+    rt: &(impl Threads + Sync),
     workers: &mut [W],
     gate: &G,
     work: F,
 )
     requires low { 1 ≤ length workers.old }
     requires high { length workers.old ≤ 64 }
-    requires callable { AcceptsEach F.Fn work workers.old }
-    ensures { ChangesEach F.Fn work workers.old workers.new }
+    requires callable { AcceptsBehind F.Fn work (G.passed gate.now) workers.old }
+    ensures worked { ChangesEach F.Fn work workers.old workers.new }
+    ensures passed { (k : ℕ) → k < length workers.old → G.passed gate.now k }
 {
     let count = workers.len();
     let call = &work;
     let part = move |k: usize, worker: &mut W|
-        requires { (k < 64) × AcceptsAt F.Fn call.now k worker.now }
-        ensures { ChangesAt F.Fn call.entry.now k worker.entry.now worker.exit.now }
+        requires { (k < 64) × (G.passed gate.now k → AcceptsAt F.Fn call.now k worker.now) }
+        ensures { ChangesAt F.Fn call.entry.now k worker.entry.now worker.exit.now × G.passed gate.entry.now k }
     { turn(gate, call, k, worker) };
     thread::for_each_mut(rt, workers, count, &part);
 }
@@ -80,8 +87,9 @@ pub fn each<R: Threads + Sync, W: Send, G: Gate, F: Fn(u32, &mut W) + Sync>(
 // The turn of worker `k`: the gate, and then the work.
 fn turn<W, G: Gate, F: Fn(u32, &mut W)>(gate: &G, work: &F, k: usize, worker: &mut W)
     requires place { k < 64 }
-    requires callable { AcceptsAt F.Fn work.now k worker.old }
-    ensures { ChangesAt F.Fn work.now k worker.old worker.new }
+    requires callable { G.passed gate.now k → AcceptsAt F.Fn work.now k worker.old }
+    ensures worked { ChangesAt F.Fn work.now k worker.old worker.new }
+    ensures passed { G.passed gate.now k }
 {
     let place = k as u32;
     gate.pass(place);

@@ -13,7 +13,7 @@ fn cuts_ten(rt: HostRuntime) {
 }
 
 // Each rank is its own place.
-fn rank<R: Threads + Sync>(rt: &R, ranks: &mut [u32])
+fn rank(rt: &(impl Threads + Sync), ranks: &mut [u32])
     requires low { 1 ≤ length ranks.old }
     requires high { length ranks.old ≤ 64 }
     ensures { (i : ℕ) → i < length ranks.old → slice_index ranks.new i ≡ i }
@@ -45,7 +45,7 @@ fn read_range(reader: &mut Reader, from: usize, to: usize)
 }
 
 // A work that asks something of its worker, and keeps it.
-fn read_all<R: Threads + Sync>(rt: &R, readers: &mut [Reader], len: usize)
+fn read_all(rt: &(impl Threads + Sync), readers: &mut [Reader], len: usize)
     requires low { 1 ≤ length readers.old }
     requires high { length readers.old ≤ 64 }
     requires tables { All (λ s. s.table ≡ 7) readers.old }

@@ -28,7 +28,7 @@ loop-at-preserved g c =
       kept = search rules;
       within = search rules;
       bytes = subst (Consumes _ _) (ap (λ l. take from c.loop-at.buf ++ l) (sym part) ∙ joined) (Consumes-trans _ _ _ _ _ c.loop-at.invariant.bytes c.in_ok-count.ensures.bytes.0);
-      later = search rules;
+      quiet = search rules;
       counted = search rules;
       each = search rules;
     }

@@ -14,7 +14,7 @@ loop-at-preserved g c =
       record {
         within = search rules;
         bytes = subst (Appends _ _) (next_piece c.args.bytes.now c.loop-at.at c.in_ok-at.field-0) (Appends-trans _ _ _ _ _ kept.bytes c.in_ok-at.ensures.bytes);
-        later = search rules;
+        quiet = search rules;
       },
       λ none. absurd (omega (arith, c.in_ok-at.ensures.bound)),
     )

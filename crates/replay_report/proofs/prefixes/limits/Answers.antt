@@ -1,4 +1,4 @@
-use Rattle.std.proofs.Common.{◌≡◌, ◌<◌, ◌+◌, ◌∷◌, ◌∙◌, [], List, ℕ, Some, sym, ap, subst, arith, length, length-append, take}
+use Rattle.std.proofs.Common.{◌≡◌, ◌<◌, ◌≤◌, ◌+◌, ◌∷◌, ◌∙◌, [], List, ℕ, Some, sym, ap, subst, arith, length, length-append, take}
 use Rattle.seat_tables.proofs.Stills.{still-trans}
 use Rattle.step_rules.specs.Legality.{start_of}
 use Rattle.step_rules.specs.Run.{run_of}
@@ -21,9 +21,6 @@ limit_after-requires-clause-limited c =
     let ran : run_of g (start_of g) (take (place + 1) actions) ≡ Some c.step-state.result = rw c.step-state.ensures.value (run_of-take _ _ _ _ _ _ inside c.loop-action.invariant.ran legal) in
     limited_on_way g c.args.shared.now.truth.grain actions (place + 1) c.step-state.result (omega arith) (omega (arith, inside)) c.requires.limited c.requires.complete ran
 
-pub returns-in_err-push-clause-still : goal.returns-in_err-push-clause-still
-returns-in_err-push-clause-still c = still-trans _ _ _ c.loop-action.invariant.still c.limit_after.ensures.still
-
 pub loop-action-preserved : goal.loop-action-preserved
 loop-action-preserved c =
     let g = c.args.g.now in
@@ -38,7 +35,7 @@ loop-action-preserved c =
       going = c.limit_after.ensures.going;
       done = λ complete. ap Some (c.limit_after.ensures.complete complete);
     } in
-    let items = c.in_ok-push.ensures.items in
+    let items = c.push_reserved.ensures.items in
     record {
       within = c.step-state.ensures.within;
       ran = ran;
@@ -46,6 +43,8 @@ loop-action-preserved c =
       numbers = subst (λ (ns : List ℕ). AreNumbers g grain actions (place + 1) ns) (sym items)
           (numbers_more g grain actions place before c.limit_after.result c.step-state.result c.loop-action.invariant.count c.loop-action.invariant.numbers ran is);
       of = c.limit_after.ensures.of;
+      pushed = c.push_reserved.ensures.len ∙ ap (λ n. n + 1) c.loop-action.invariant.pushed;
+      room = subst (λ n. length actions ≤ n) (sym c.push_reserved.ensures.capacity) c.loop-action.invariant.room;
       still = still-trans _ _ _ c.loop-action.invariant.still c.limit_after.ensures.still;
     }
 

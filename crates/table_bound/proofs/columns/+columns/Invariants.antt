@@ -1,23 +1,24 @@
--- In each bucket, the row has the greatest gain of the plans whose first move was tried.
-use Rattle.std.proofs.Common.{◌+◌, ◌*◌}
+-- A fill leads to a next one only with a budget that is less by the least price: so they nest no deeper than the budget has
+-- room for least prices, and one more. In each bucket, the row has the greatest gain of the plans whose first move was tried.
+use Rattle.std.proofs.Common.{◌+◌, ◌*◌, ◌/◌}
 use Rattle.seat_tables.specs.Seats.{IsOf, StillSees}
 use Rattle.table_bound.specs.Columns.{Leads}
 use Rattle.table_bound.proofs.columns.+columns.Given as goal
 
 abbrev pub decreases-take_turn : goal.decreases-take_turn
-decreases-take_turn g l = l.column.now.budget * 5
+decreases-take_turn g l = l.column.now.budget / (g.T.Bound.rules l.shared.now.truth).least * 5
 
 abbrev pub decreases-take_in : goal.decreases-take_in
-decreases-take_in g l = l.column.now.budget * 5 + 1
+decreases-take_in g l = l.column.now.budget / (g.T.Bound.rules l.shared.now.truth).least * 5 + 1
 
 abbrev pub decreases-fill_by : goal.decreases-fill_by
-decreases-fill_by g l = l.column.now.budget * 5 + 2
+decreases-fill_by g l = l.column.now.budget / (g.T.Bound.rules l.shared.now.truth).least * 5 + 2
 
 abbrev pub decreases-fill : goal.decreases-fill
-decreases-fill g l = l.column.now.budget * 5 + 3
+decreases-fill g l = l.column.now.budget / (g.T.Bound.rules l.shared.now.truth).least * 5 + 3
 
 abbrev pub decreases-lowered : goal.decreases-lowered
-decreases-lowered g l = l.column.now.budget * 5 + 4
+decreases-lowered g l = l.column.now.budget / (g.T.Bound.rules l.shared.now.truth).least * 5 + 4
 
 abbrev pub invariant-fill_by-loop-number : goal.invariant-fill_by-loop-number
 invariant-fill_by-loop-number g l = record {

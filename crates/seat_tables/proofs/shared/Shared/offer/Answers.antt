@@ -2,7 +2,7 @@ use Rattle.std.proofs.Common.{rules, arith, ◌+◌, max, sym, ap, ◌∙◌, su
 use Rattle.race_core.specs.Codes.{quality}
 use Rattle.race_core.specs.Events.{offered}
 use Rattle.seat_tables.specs.Seats.{AtLeast}
-use Rattle.seat_tables.proofs.Keeps.{may-offer, key-is, mark-raised, raised-above}
+use Rattle.seat_tables.proofs.Keeps.{may-offer, key-is, mark-raised, raised-above, offered-mark}
 use Rattle.seat_tables.proofs.Stills.{still-same}
 use Rattle.seat_tables.proofs.shared.Shared.offer.Goals as goal
 
@@ -24,6 +24,11 @@ returns-clause-of g c = (
 pub returns-clause-step : goal.returns-clause-step
 returns-clause-step g c = let happened = c.fetch_max.ensures.2.1.0 ∙ ap (λ n. offered (1 + n) c.fetch_max.result c.seat.inside.token.me.0) c.from-mark.ensures ∙ ap (λ s. offered (1 + c.args.quality) c.fetch_max.result s.view) c.seat.view_is in
     record { found = c.fetch_max.result; happened = happened; counted = ap (λ v. v.steps) happened; noted = ap (λ v. v.last) happened }
+
+pub returns-clause-mark : goal.returns-clause-mark
+returns-clause-mark g c = let happened = c.fetch_max.ensures.2.1.0 ∙ ap (λ n. offered (1 + n) c.fetch_max.result c.seat.inside.token.me.0) c.from-mark.ensures in
+    offered-mark g.T.Truth.size g.T.Truth.entry g.T.Truth.reached c.args.self.now.truth _ c.fetch_max.result c.args.quality
+    (ap (λ v. v.joined) happened ∙ ap (λ s. s.view.joined) c.seat.view_is ∙ c.requires.of.2) (ap (λ v. v.floor) happened) (ap (λ v. v.last) happened)
 
 pub returns-clause-floor : goal.returns-clause-floor
 returns-clause-floor g c = let is = ap (λ s. s.view.truth) c.seat.view_is ∙ c.requires.of.1 in

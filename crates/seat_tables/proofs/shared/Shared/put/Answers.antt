@@ -1,7 +1,7 @@
 use Rattle.std.proofs.Common.{rules, arith, ◌<◌, [], ◌∷◌, sym, ap, ◌∙◌, subst, refl, Contains}
 use Rattle.race_core.specs.Codes.{code}
 use Rattle.race_core.specs.Events.{filled}
-use Rattle.seat_tables.proofs.Keeps.{may-put, contains-last, key-is}
+use Rattle.seat_tables.proofs.Keeps.{may-put, contains-last, key-is, seen-word}
 use Rattle.seat_tables.proofs.Stills.{still-longer}
 use Rattle.seat_tables.proofs.shared.Shared.put.Goals as goal
 
@@ -24,6 +24,12 @@ returns-clause-of g c = (
 pub returns-clause-step : goal.returns-clause-step
 returns-clause-step g c = let happened = (c.compare_exchange.ensures.2.1 c.args.index refl) ∙ ap (λ s. filled c.args.index c.compare_exchange.result s.view) c.seat.view_is in
     record { found = c.compare_exchange.result; happened = happened; counted = ap (λ v. v.steps) happened; noted = ap (λ v. v.last) happened }
+
+pub returns-clause-word : goal.returns-clause-word
+returns-clause-word g c = seen-word g.T.Truth.size g.T.Truth.entry g.T.Truth.reached c.args.self.now.truth _ c.args.index c.args.entry c.requires.inside
+    (ap (λ v. v.joined) (c.compare_exchange.ensures.2.1 c.args.index refl) ∙ ap (λ s. s.view.joined) c.seat.view_is ∙ c.requires.of.2)
+    (subst (λ v. Contains v.seen c.args.index) (sym (c.compare_exchange.ensures.2.1 c.args.index refl)) (contains-last c.seat.inside.token.me.0.seen c.args.index))
+    c.requires.entry
 
 pub returns-clause-seen : goal.returns-clause-seen
 returns-clause-seen g c = subst (λ v. Contains v.seen c.args.index) (sym (c.compare_exchange.ensures.2.1 c.args.index refl)) (contains-last c.seat.inside.token.me.0.seen c.args.index)
