@@ -15,6 +15,8 @@ ghost use Rattle.level_search.specs.declared.searcher.Searcher.{Searcher as Sear
 mod aim;
 mod endings;
 mod expanding;
+#[cfg(test)]
+mod front_tests;
 mod levels;
 mod links;
 mod searcher;
