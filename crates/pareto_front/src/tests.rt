@@ -82,6 +82,10 @@ fn finds_the_first_cover(rt: HostRuntime) -> Result<(), Fail> {
     assert_eq!(rt; columns.cover([20, 20, 5]), Some(1));
     assert_eq!(rt; columns.cover([10, 20, 5]), Some(0));
     assert_eq!(rt; columns.cover([10, 25, 5]), None);
+    columns.clear();
+    assert_eq!(rt; columns.cover([0, 0, 0]), None);
+    assert!(rt; columns.push(30, 20, 5).is_ok());
+    assert_eq!(rt; columns.cover([20, 20, 5]), Some(0));
     Ok(())
 }
 
