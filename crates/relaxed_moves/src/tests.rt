@@ -122,6 +122,20 @@ fn budgets(rt: HostRuntime) -> Result<(), Fail> {
     Ok(())
 }
 
+// The progress of a bucket by a grain: of 150 and of 7000, rounded up.
+#[test]
+fn scales(rt: HostRuntime) {
+    for (grain, small, large) in [(1, 150, 7000), (7, 22, 1000), (16, 10, 438), (64, 3, 110)] {
+        assert_eq!(rt; unit(&SMALL, grain), small);
+        assert_eq!(rt; unit(&LARGE, grain), large);
+        let scale = Scale::new(&LARGE, grain);
+        assert_eq!(rt; scale.unit, large);
+        assert_eq!(rt; scale.weights, weights(&LARGE));
+    }
+    assert_eq!(rt; Scale::new(&SMALL, 16).weights.rho, 14);
+    assert_eq!(rt; Scale::new(&LARGE, 16).weights.slack, 24);
+}
+
 #[test]
 fn relaxed_states(rt: HostRuntime) -> Result<(), Fail> {
     let mut effects = PLAIN;
