@@ -24,8 +24,8 @@ pub(crate) struct Worker {
 }
 
 /// The children of the nodes of a level that are live and pass, in order, and the searchers.
-pub(crate) fn expand<R: Threads + Sync, G: Gate>(
-    rt: &R,
+pub(crate) fn expand<G: Gate>(
+    rt: &(impl Threads + Sync),
     alloc: Global,
     gate: &G,
     aim: &Aim<'_>,
@@ -61,8 +61,8 @@ fn hire(alloc: Global, searchers: Vec<Searcher>) -> Result<Vec<Worker>, WantMemo
 }
 
 // Each worker expands its range of the level.
-fn work<R: Threads + Sync, G: Gate>(
-    rt: &R,
+fn work<G: Gate>(
+    rt: &(impl Threads + Sync),
     alloc: Global,
     gate: &G,
     aim: &Aim<'_>,

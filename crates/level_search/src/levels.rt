@@ -21,8 +21,8 @@ use step_rules::start;
 use worker_gate::Gate;
 
 /// The best macro of `n` actions with the target's quality, if there is one, and the searchers.
-pub(crate) fn search_length<R: Threads + Sync, G: Gate>(
-    rt: &R,
+pub(crate) fn search_length<G: Gate>(
+    rt: &(impl Threads + Sync),
     alloc: Global,
     gate: &G,
     aim: &Aim<'_>,
@@ -52,8 +52,8 @@ pub(crate) struct Survivors {
 }
 
 // The survivors of each length below `n`.
-fn survivors_of<R: Threads + Sync, G: Gate>(
-    rt: &R,
+fn survivors_of<G: Gate>(
+    rt: &(impl Threads + Sync),
     alloc: Global,
     gate: &G,
     aim: &Aim<'_>,
@@ -106,8 +106,8 @@ fn first_level(alloc: Global, g: &Settings) -> Result<Vec<Node>, WantMemory>
 }
 
 // The children of a level that are live, pass, and are covered by no other, and the searchers.
-fn next_level<R: Threads + Sync, G: Gate>(
-    rt: &R,
+fn next_level<G: Gate>(
+    rt: &(impl Threads + Sync),
     alloc: Global,
     gate: &G,
     aim: &Aim<'_>,

@@ -48,8 +48,8 @@ const MOST_STEPS: u32 = 272;
 /// are left, aren't below the target. The searchers come back as many and in the same order, still of their tables, each
 /// having seen at least what it had seen. The first has seen both bounds of the state after each action but the last.
 /// Refused for memory it has dropped the searchers; the tables may have been filled meanwhile.
-pub fn best_macro<R: Threads + Sync, G: Gate>(
-    rt: &R,
+pub fn best_macro<G: Gate>(
+    rt: &(impl Threads + Sync),
     alloc: Global,
     g: &Settings,
     grain: u32,

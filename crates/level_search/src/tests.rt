@@ -74,8 +74,8 @@ fn searchers(
 }
 
 // Whether the search finds this macro and these counts; the macro has the greatest quality that counts.
-fn finds<R: Threads + Sync, G: Gate>(
-    rt: &R,
+fn finds<G: Gate>(
+    rt: &(impl Threads + Sync),
     alloc: Global,
     gate: &G,
     g: &Settings,

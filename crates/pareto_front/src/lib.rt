@@ -29,8 +29,8 @@ use sweep::keep_all;
 /// The nodes of a level that no node of it covers, in order. A node covers another where progress
 /// and effects are equal, its CP, durability and quality are not less, and its seconds are fewer, or
 /// as many from an earlier place.
-pub fn prune<R: Threads + Sync>(
-    rt: &R,
+pub fn prune(
+    rt: &(impl Threads + Sync),
     alloc: Global,
     level: Vec<Node>,
 ) -> Result<Vec<Node>, WantMemory>

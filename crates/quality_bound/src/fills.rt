@@ -82,8 +82,8 @@ fn fill_range(
 
 /// Fills the columns of a budget, at most the potential of the start, by 1 to 64 seats side by side. The effects
 /// numbers are cut among the seats, and each seat has then seen the indices of its own. No memory is taken.
-pub fn fill_budget<R: Threads + Sync, G: Gate>(
-    rt: &R,
+pub fn fill_budget<G: Gate>(
+    rt: &(impl Threads + Sync),
     shared: &Shared<QualityTruth>,
     seats: &mut [Seat<QualityTruth>],
     gate: &G,

@@ -20,8 +20,8 @@ use worker_gate::{Gate, each, range_of};
 
 /// Expands a batch, each worker its part. The states found take the place of what `found` held, and the best quality
 /// that is then known is answered.
-pub fn expand_batch<R: Threads + Sync, G: Gate>(
-    rt: &R,
+pub fn expand_batch<G: Gate>(
+    rt: &(impl Threads + Sync),
     g: &Settings,
     shared: &Shared<QualityTruth>,
     batch: &[Candidate],
@@ -44,8 +44,8 @@ pub fn expand_batch<R: Threads + Sync, G: Gate>(
 }
 
 // Lets each worker expand its part.
-fn share_out<R: Threads + Sync, G: Gate>(
-    rt: &R,
+fn share_out<G: Gate>(
+    rt: &(impl Threads + Sync),
     g: &Settings,
     shared: &Shared<QualityTruth>,
     batch: &[Candidate],

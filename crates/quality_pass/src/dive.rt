@@ -31,8 +31,8 @@ const MOST_STEPS: u32 = 272;
 
 /// A quality of some complete legal macro, if one is found. Dives of more and more width go on until one reaches the
 /// cap.
-pub fn dive<R: Threads + Sync, G: Gate>(
-    rt: &R,
+pub fn dive<G: Gate>(
+    rt: &(impl Threads + Sync),
     alloc: Global,
     g: &Settings,
     shared: &Shared<QualityTruth>,
@@ -55,8 +55,8 @@ pub fn dive<R: Threads + Sync, G: Gate>(
 }
 
 // One dive, level by level, with so many states of each level at most.
-fn dive_once<R: Threads + Sync, G: Gate>(
-    rt: &R,
+fn dive_once<G: Gate>(
+    rt: &(impl Threads + Sync),
     alloc: Global,
     g: &Settings,
     shared: &Shared<QualityTruth>,

@@ -35,8 +35,8 @@ const BATCH: usize = 64;
 /// the table, has seen what it had seen, and in its part of the effects numbers each index of the budgets up to 63.
 /// Where there is a quality, it is the floor of each seat. Each proper prefix of a complete legal macro has a limit of
 /// at least the macro's quality. Refused for memory the seats are dropped.
-pub fn best_quality<R: Threads + Sync, G: Gate>(
-    rt: &R,
+pub fn best_quality<G: Gate>(
+    rt: &(impl Threads + Sync),
     alloc: Global,
     g: &Settings,
     grain: u32,
@@ -67,8 +67,8 @@ pub fn best_quality<R: Threads + Sync, G: Gate>(
 }
 
 // Fills the least budgets, each seat its part.
-fn fill_budgets<R: Threads + Sync, G: Gate>(
-    rt: &R,
+fn fill_budgets<G: Gate>(
+    rt: &(impl Threads + Sync),
     g: &Settings,
     shared: &Shared<QualityTruth>,
     seats: &mut [Seat<QualityTruth>],
@@ -90,8 +90,8 @@ fn fill_budgets<R: Threads + Sync, G: Gate>(
 
 // The search: open states with the greatest limits are expanded, batch by batch, until none has a limit above the best
 // quality.
-fn search<R: Threads + Sync, G: Gate>(
-    rt: &R,
+fn search<G: Gate>(
+    rt: &(impl Threads + Sync),
     alloc: Global,
     g: &Settings,
     shared: &Shared<QualityTruth>,
@@ -144,8 +144,8 @@ fn limited(g: &Settings, candidate: &Candidate) -> Candidate
 }
 
 // Offers the greatest quality by each seat, where there is one.
-fn offer_all<R: Threads + Sync, G: Gate>(
-    rt: &R,
+fn offer_all<G: Gate>(
+    rt: &(impl Threads + Sync),
     shared: &Shared<QualityTruth>,
     seats: &mut [Seat<QualityTruth>],
     gate: &G,

@@ -86,8 +86,8 @@ fn split_off(
 }
 
 // What so many workers answer.
-fn answer<R: Threads + Sync, G: Gate>(
-    rt: &R,
+fn answer<G: Gate>(
+    rt: &(impl Threads + Sync),
     alloc: Global,
     g: &Settings,
     count: u32,
@@ -364,8 +364,8 @@ fn watched_at<R: Threads + Wait + Sync>(
 }
 
 // What the pass answers by these seats.
-fn pass<R: Threads + Sync, G: Gate>(
-    rt: &R,
+fn pass<G: Gate>(
+    rt: &(impl Threads + Sync),
     alloc: Global,
     table: &Shared<QualityTruth>,
     seats: Vec<Seat<QualityTruth>>,
