@@ -5,7 +5,7 @@ ghost use Rattle.step_rules.specs.Macro.{IsReached};
 use crate::{QualityTruth, ask, fill_budget, fill_column, limit};
 use action_table::{Action, WantMemory};
 use craft_settings::Settings;
-use race_core::Entry;
+use race_core::{Core, Entry, Event};
 use relaxed_moves::{at_bucket, of_index, potential, start_potential};
 use seat_tables::{Seat, Shared};
 use std::alloc::Global;
@@ -52,6 +52,25 @@ fn a_put_word_stays(rt: HostRuntime) -> Result<(), Fail> {
     let closed = table.close(a);
     assert_eq!(rt; closed.word(8), 2);
     assert_eq!(rt; closed.word(1101), 1);
+    Ok(())
+}
+
+// The seat that put the word was joined away, so the last event changes nothing.
+#[test]
+fn a_joined_seat_plays_no_more(rt: HostRuntime) -> Result<(), Fail> {
+    let mut core = Core::start(rt.alloc(), first_touch())?;
+    core.run(&[
+        Event::Load { seat: 0, index: 7 },
+        Event::Split { seat: 0 },
+        Event::Put {
+            seat: 1,
+            index: 7,
+            entry: Entry::Best(0),
+        },
+        Event::Join { into: 0, from: 1 },
+        Event::Load { seat: 1, index: 7 },
+    ])?;
+    assert_eq!(rt; core.word(8), 2);
     Ok(())
 }
 
