@@ -1,0 +1,10 @@
+pub mod Fairness
+pub mod Recursion
+pub mod FirstMoves
+pub mod Order
+pub mod Places
+pub mod Plans
+pub mod Rounding
+pub mod Special
+pub mod Trying
+pub mod Trails
