@@ -1,0 +1,4 @@
+pub mod Lines
+pub mod FirstLine
+pub mod Reading
+pub mod Mark
