@@ -1,6 +1,8 @@
-ghost use Rattle.std.specs.Prelude.{◌≡◌, ◌<◌, ◌≤◌, ◌≢◌, MatchOption};
-ghost use Rattle.action_table.specs.Table.{number_of, display_name_of, key_of};
+ghost use Rattle.std.specs.Prelude.{ℕ, ◌≡◌, ◌<◌, ◌≤◌, ◌≢◌, MatchOption};
+ghost use Rattle.action_table.specs.Table.{number_of, display_name_of, key_of, row_of, action_seconds};
 ghost use Rattle.action_table.specs.declared.action.Action.{Action};
+
+use crate::row;
 
 /// An action of a craft. The order of the variants is the action order.
 #[derive(Clone, Copy, PartialEq, Eq, Default, Debug)]
@@ -38,6 +40,36 @@ impl Action {
     /// How many actions there are.
     pub const COUNT: u8 = 26;
 
+    /// All actions, in the action order.
+    pub const ALL: [Action; 26] = [
+        Action::BasicSynthesis,
+        Action::BasicTouch,
+        Action::MastersMend,
+        Action::Observe,
+        Action::WasteNot,
+        Action::Veneration,
+        Action::StandardTouch,
+        Action::GreatStrides,
+        Action::Innovation,
+        Action::WasteNotII,
+        Action::ByregotsBlessing,
+        Action::MuscleMemory,
+        Action::CarefulSynthesis,
+        Action::Manipulation,
+        Action::PrudentTouch,
+        Action::Reflect,
+        Action::PreparatoryTouch,
+        Action::Groundwork,
+        Action::DelicateSynthesis,
+        Action::AdvancedTouch,
+        Action::PrudentSynthesis,
+        Action::TrainedFinesse,
+        Action::RefinedTouch,
+        Action::ImmaculateMend,
+        Action::TrainedPerfection,
+        Action::TrainedEye,
+    ];
+
     /// The place of the action in the action order, counted from 0.
     pub fn number(self) -> u8
         ensures value { result ≡ number_of self }
@@ -50,35 +82,21 @@ impl Action {
     pub fn from_number(n: u8) -> Option<Action>
         ensures { MatchOption result (Self.COUNT ≤ n) (λ action. number_of action ≡ n) }
     {
-        match n {
-            0 => Some(Action::BasicSynthesis),
-            1 => Some(Action::BasicTouch),
-            2 => Some(Action::MastersMend),
-            3 => Some(Action::Observe),
-            4 => Some(Action::WasteNot),
-            5 => Some(Action::Veneration),
-            6 => Some(Action::StandardTouch),
-            7 => Some(Action::GreatStrides),
-            8 => Some(Action::Innovation),
-            9 => Some(Action::WasteNotII),
-            10 => Some(Action::ByregotsBlessing),
-            11 => Some(Action::MuscleMemory),
-            12 => Some(Action::CarefulSynthesis),
-            13 => Some(Action::Manipulation),
-            14 => Some(Action::PrudentTouch),
-            15 => Some(Action::Reflect),
-            16 => Some(Action::PreparatoryTouch),
-            17 => Some(Action::Groundwork),
-            18 => Some(Action::DelicateSynthesis),
-            19 => Some(Action::AdvancedTouch),
-            20 => Some(Action::PrudentSynthesis),
-            21 => Some(Action::TrainedFinesse),
-            22 => Some(Action::RefinedTouch),
-            23 => Some(Action::ImmaculateMend),
-            24 => Some(Action::TrainedPerfection),
-            25 => Some(Action::TrainedEye),
-            _ => None,
+        if n < Action::COUNT {
+            Some(Action::ALL[n as usize])
+        } else {
+            None
         }
+    }
+
+    /// How many seconds the action takes, the same at every level.
+    #[tactic(auto, using(crate::proofs::Seconds::seconds_at), unfolding(crate::specs::Table::action_seconds))]
+    pub fn seconds(self) -> u32
+        ensures value { result ≡ action_seconds self }
+        ensures small { result ≤ 3 }
+        ensures row { (level : ℕ) → (row_of self level).seconds ≡ result }
+    {
+        row(self, 1).seconds
     }
 
     /// The name of the action in a macro line, as "Byregot's Blessing".

@@ -1,4 +1,4 @@
-// The actions of a craft: their numbers, names and rows.
+//! The actions of a craft: their numbers, names and rows.
 #![tactic(auto)]
 
 ghost use Rattle.std.specs.Prelude.{◌≡◌, ◌≤◌};

@@ -1,5 +1,6 @@
 -- The limits of the next state, and of the last.
 use Rattle.std.proofs.Common.{ℕ, Bool, true, false, [], Option, Some, None, ◌≡◌, ◌≤◌, ◌<◌, ◌+◌, ◌-◌, ◌*◌, ◌/◌, ◌%◌, ◌||◌, ◌==◌, nat_lt, nat_le, min, refl, ◌∙◌, sym, subst, arith, if◌then◌else◌}
+use Rattle.plain_lemmas.proofs.Tests.{eq_from}
 use Rattle.std.specs.Option.{option_map}
 use Rattle.std.proofs.lemmas.Nat.{div-add-mod', mul-le, div_below}
 use Rattle.action_table.specs.declared.action.Action.{Action}
@@ -14,15 +15,15 @@ use Rattle.step_rules.specs.Step.{progress_after, quality_after, acted_of, settl
 use Rattle.step_rules.proofs.LegalFacts.{legal_facts, effects_allow}
 use Rattle.relaxed_moves.specs.Budget.{rho_of, slack_of, cost_of, potential_of}
 use Rattle.relaxed_moves.specs.Moves.{RelaxedFields, AreRelaxed, IsNoBetter, is_listed, is_move_of, unit_of, relax_of, move_gain_of, move_progress, move_on_of}
-use Rattle.relaxed_moves.specs.Places.{most_moves}
+use Rattle.relaxed_moves.specs.declared.places.TheConstants.{MOST_MOVES}
 use Rattle.relaxed_moves.specs.Optimum.{option_le, ArePriced, best_plan, worth, one, capped, limit_of, within_of}
 use Rattle.relaxed_moves.proofs.Greatest.{option_le-trans}
 use Rattle.relaxed_moves.proofs.Plans.{map_le, worth-nil, best_plan-move, best_plan-upper}
-use Rattle.relaxed_moves.proofs.Order.{best_plan-no_better, AreRelaxed-move_on}
+use Rattle.relaxed_moves.proofs.Order.{best_plan-no_better, AreRelaxed-move_on, AreRelaxed-relax}
 use Rattle.relaxed_moves.proofs.Costs.{ArePriced-cost, ArePriced-one, unit_positive}
 use Rattle.admissible.specs.Laws.{GoesOn, Finishes}
 use Rattle.admissible.proofs.Potential.{potential-step, potential_falls, lift-none, allowed-now, potential-strength, strength, combo_cost}
-use Rattle.admissible.proofs.Relaxing.{opens, opens-not, relaxed-step, quality-step, rest-worse, rest-gain, rest-progress, IsNoBetter-trans, AreRelaxed-relax, moves-legal, progress-le, quality-le}
+use Rattle.admissible.proofs.Relaxing.{opens, opens-not, relaxed-step, quality-step, rest-worse, rest-gain, rest-progress, IsNoBetter-trans, moves-legal, progress-le, quality-le}
 
 -- what a move adds to the best plan after it
 law-move : (price : Action → ℕ) (g : SettingsFields) (grain budget budget' : ℕ) (x x' : RelaxedFields) (a : Action) →
@@ -113,14 +114,14 @@ within-by true false m o' o h le most = most
 within-by false true m o' o h le most = let e : false ≡ true = h refl in absurd (cc)
 within-by false false m o' o h le most = omega arith
 
-fewer : (j : ℕ) → nat_le j most_moves ≡ true → nat_le (j - 1) most_moves ≡ true
+fewer : (j : ℕ) → nat_le j MOST_MOVES ≡ true → nat_le (j - 1) MOST_MOVES ≡ true
 fewer j h = grind arith
 
 pub within-law : (g : SettingsFields) (grain : ℕ) (s : StateFields) (a : Action) (j : ℕ) → Later g grain s a → 1 ≤ j →
     option_le (within_of g grain (step_of g s a) (j - 1)) (within_of g grain s j)
 unfolding within_of
 within-law g grain s a j later some =
-    within-by (nat_le (j - 1) most_moves) (nat_le j most_moves) (cap_of g) _ _ (fewer j)
+    within-by (nat_le (j - 1) MOST_MOVES) (nat_le j MOST_MOVES) (cap_of g) _ _ (fewer j)
     (capped-le g s (step_of g s a) (move_gain_of g (relax_of g grain s) a) _ _
     (quality-step g grain s a later.step (later-opens g grain s a later))
     (law-step one g grain j (j - 1) s a (ArePriced-one g) later (λ listed. omega arith) (omega arith)))
@@ -140,9 +141,6 @@ pub record Last (g : SettingsFields) (grain : ℕ) (s : StateFields) (a : Action
   pub step : Finishes g s a
   pub first : s.effects.first ≡ false
   pub low : 1 ≤ grain
-
-all_done : (n p : ℕ) → (n == p) ≡ true → n ≡ p
-all_done n p h = grind arith
 
 made_progress : (c : Bool) (m n p : ℕ) → (if c then m else n) ≡ p → (n == p) ≡ false → c ≡ true
 made_progress true m n p h k = refl
@@ -234,7 +232,7 @@ last-facts g grain s a last =
     let later : opens a ≡ false = opens-not s.effects a last.first (effects_allow g s a facts) in
     let positive : 0 < unit_of g grain = unit_positive g grain last.step.within.settings last.low in
     let parts = step-parts g s a in
-    let done : progress_after g s a ≡ g.progress = sym parts.0 ∙ all_done _ _ last.step.done in
+    let done : progress_after g s a ≡ g.progress = sym parts.0 ∙ eq_from _ _ last.step.done in
     let some : nat_lt 0 (row_of a g.level).progress ≡ true = made_progress _ _ _ _ done (or_none (s.progress == g.progress) (s.durability == 0) facts.live).0 in
     record {
       may = moves-legal g grain s a (effects_allow g s a facts) (listed-by g a allowed some later);
@@ -260,6 +258,6 @@ pub last-within : (g : SettingsFields) (grain : ℕ) (s : StateFields) (a : Acti
 unfolding within_of
 last-within g grain s a j last some =
     let facts : LastFacts g grain s a = last-facts g grain s a last in
-    capped-if (nat_le j most_moves) (cap_of g) (step_of g s a).quality _
+    capped-if (nat_le j MOST_MOVES) (cap_of g) (step_of g s a).quality _
     (capped-some g s (step_of g s a).quality (move_gain_of g (relax_of g grain s) a) _ facts.quality
     (lone-plan one g grain j (relax_of g grain s) a (ArePriced-one g) facts.may some facts.bucket))

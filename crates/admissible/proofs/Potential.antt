@@ -1,5 +1,7 @@
 -- What a step does to the potential.
 use Rattle.std.proofs.Common.{ℕ, Bool, true, false, None, ◌≡◌, ◌≤◌, ◌+◌, ◌-◌, ◌*◌, ◌/◌, ◌%◌, ◌&&◌, ◌||◌, ◌==◌, not, nat_lt, refl, sym, arith, if◌then◌else◌}
+use Rattle.relaxed_moves.proofs.Costs.{rho_high}
+use Rattle.plain_lemmas.proofs.Tests.{clash}
 use Rattle.std.proofs.lemmas.Nat.{div-add-mod', mul-le}
 use Rattle.std.proofs.Math.Nat.{mul-le-mul_left}
 use Rattle.action_table.specs.declared.action.Action.{Action}
@@ -89,14 +91,11 @@ lasting : (g : SettingsFields) (s : StateFields) (a : Action) → is_over g (act
 unfolding acted_of
 lasting g s a live fives = outlasts _ s.durability (wear_at g s a) live fives (wear_fives g s a)
 
-clash : (t : Bool) → t ≡ true → t ≡ false → ⊥
-clash t h k = cc
-
 pub goes-acted : (g : SettingsFields) (s : StateFields) (a : Action) → is_over g (step_of g s a) ≡ false → is_over g (acted_of g s a) ≡ false
 unfolding step_of
 goes-acted g s a live =
     elim (is_over g (acted_of g s a)) as (λ b. is_over g (acted_of g s a) ≡ b → is_over g (if b then acted_of g s a else settled_of g s.effects a (acted_of g s a)) ≡ false → is_over g (acted_of g s a) ≡ false) [
-      | true ↦ λ over still. absurd (clash _ over still)
+      | true ↦ λ over still. absurd (clash over still)
       | false ↦ λ going still. going
     ] refl live
 
@@ -186,13 +185,9 @@ sigma-waste_more : (g : SettingsFields) → is_allowed g WasteNotII ≡ true →
 unfolding sigma_of
 sigma-waste_more g allowed = rw allowed (omega arith)
 
-rho-high : (g : SettingsFields) → rho_of g ≤ 14
-unfolding rho_of
-rho-high g = grind arith
-
 -- what an action adds is paid by its CP
 pub lift-paid : (g : SettingsFields) (a : Action) → is_allowed g a ≡ true → lift_worth g a ≤ (row_of a g.level).combo_cp
-lift-paid g MastersMend allowed = omega (arith, rho-high g)
+lift-paid g MastersMend allowed = omega (arith, rho_high g)
 lift-paid g ImmaculateMend allowed = omega (arith, whole_mend (rho_of g) (g.durability / 5 - 1) (rho-mend g allowed))
 lift-paid g Manipulation allowed = omega (arith, rho-manipulation g allowed)
 lift-paid g WasteNot allowed = omega (arith, sigma-waste g allowed)

@@ -1,5 +1,7 @@
 -- States that are reached have no more potential than the start, and no macro beats a limit on its way.
 use Rattle.std.proofs.Common.{ℕ, suc, Bool, true, false, List, [], ◌∷◌, Option, Some, None, ◌≡◌, ◌≤◌, ◌+◌, ◌-◌, ◌*◌, ◌/◌, ◌||◌, ◌==◌, nat_lt, nat_le, length, refl, sym, subst, arith, if◌then◌else◌}
+use Rattle.step_rules.proofs.MeasureFalls.{durability-acted}
+use Rattle.plain_lemmas.proofs.Tests.{some_same, clash}
 use Rattle.std.proofs.Math.Nat.{mul-le-mul_left}
 use Rattle.action_table.specs.declared.action.Action.{Action}
 use Rattle.action_table.specs.declared.action.Action.TheVariants.{BasicSynthesis}
@@ -11,18 +13,17 @@ use Rattle.step_rules.specs.Legality.{is_legal, is_over, is_complete, start_of, 
 use Rattle.step_rules.specs.Run.{run_of}
 use Rattle.step_rules.specs.Macro.{counted}
 use Rattle.step_rules.specs.Step.{acted_of, settled_of, step_of}
-use Rattle.step_rules.proofs.Bounds.{IsWithin-step, IsWithin-start}
+use Rattle.step_rules.proofs.Bounds.{IsWithin-step, IsWithin-start, still_live}
 use Rattle.step_rules.proofs.LegalFacts.{legal_facts}
 use Rattle.relaxed_moves.specs.Budget.{rho_of, sigma_of, slack_of, cost_of, potential_of, start_potential_of, is_spent}
 use Rattle.relaxed_moves.specs.Moves.{relax_of, unit_of, RelaxedFields, IsNoBetter}
-use Rattle.relaxed_moves.specs.Places.{most_moves}
+use Rattle.relaxed_moves.specs.declared.places.TheConstants.{MOST_MOVES}
 use Rattle.relaxed_moves.specs.Optimum.{option_le, best_plan, one, capped, limit_of, within_of}
 use Rattle.relaxed_moves.proofs.Greatest.{option_le-refl, option_le-trans}
-use Rattle.relaxed_moves.proofs.Order.{best_plan-no_better}
+use Rattle.relaxed_moves.proofs.Order.{best_plan-no_better, AreRelaxed-relax}
 use Rattle.relaxed_moves.proofs.Costs.{ArePriced-cost, unit_positive}
 use Rattle.craft_state.specs.NotLess.{IsNotLess}
 use Rattle.admissible.proofs.Potential.{strength, potential-strength, potential_falls, step-settled}
-use Rattle.admissible.proofs.Relaxing.{AreRelaxed-relax}
 use Rattle.admissible.proofs.Limits.{limit-law, within-law, last-limit, last-within}
 
 -- also a step that ends the craft doesn't raise the potential
@@ -47,27 +48,17 @@ potential-acted g s a =
     rw (potential-strength g (acted_of g s a), potential-strength g s)
     (worth-less (rho_of g) (sigma_of g) (slack_of g) s.cp (acted_of g s a).cp (strength s) (strength (acted_of g s a)) s.effects.waste (acted_of g s a).effects.waste parts.0 (strength-any g s a) (omega (arith, parts.1)))
 
-still_live : (x : Bool) (d d' : ℕ) → (x || (d == 0)) ≡ false → d ≤ d' → (x || (d' == 0)) ≡ false
-still_live x d d' live more = grind arith
-
 step-acted : (g : SettingsFields) (s : StateFields) (a : Action) → is_over g (acted_of g s a) ≡ true → step_of g s a ≡ acted_of g s a
 unfolding step_of
 step-acted g s a over = rw over refl
-
-clash : (t : Bool) → t ≡ true → t ≡ false → ⊥
-clash t h k = cc
 
 settled-over : (g : SettingsFields) (before : EffectFields) (a : Action) (s : StateFields) → s.durability ≤ g.durability → is_over g s ≡ false → is_over g (settled_of g before a s) ≡ false
 unfolding settled_of
 settled-over g before a s within live = still_live (s.progress == g.progress) s.durability _ live (omega arith)
 
-durability-acted : (g : SettingsFields) (s : StateFields) (a : Action) → s.durability ≤ g.durability → (acted_of g s a).durability ≤ g.durability
-unfolding acted_of
-durability-acted g s a within = omega arith
-
 still-going : (g : SettingsFields) (s : StateFields) (a : Action) → s.durability ≤ g.durability → is_over g (acted_of g s a) ≡ false → is_over g (step_of g s a) ≡ true → ⊥
 still-going g s a within going over =
-    clash (is_over g (settled_of g s.effects a (acted_of g s a))) (subst (λ t. is_over g t ≡ true) (step-settled g s a going) over) (settled-over g s.effects a (acted_of g s a) (durability-acted g s a within) going)
+    clash (subst (λ t. is_over g t ≡ true) (step-settled g s a going) over) (settled-over g s.effects a (acted_of g s a) (durability-acted g s a within) going)
 
 over-acted : (g : SettingsFields) (s : StateFields) (a : Action) → s.durability ≤ g.durability → is_over g (step_of g s a) ≡ true → potential_of g (step_of g s a) ≤ potential_of g s
 over-acted g s a within over =
@@ -88,11 +79,8 @@ pub ran : (b : Bool) (o : Option StateFields) (t : StateFields) → (if b then o
 ran true o t h = (refl, h)
 ran false o t h = absurd (cc)
 
-pub same_state : (s t : StateFields) → Some s ≡ Some t → s ≡ t
-same_state s t h = cc
-
 pub potential-run : (g : SettingsFields) (s t : StateFields) (m : List Action) → IsWithin g s → run_of g s m ≡ Some t → potential_of g t ≤ potential_of g s
-potential-run g s t [] within h = let e : s ≡ t = same_state s t h in subst (λ u. potential_of g u ≤ potential_of g s) e (omega arith)
+potential-run g s t [] within h = let e : s ≡ t = some_same s t h in subst (λ u. potential_of g u ≤ potential_of g s) e (omega arith)
 potential-run g s t (a ∷ m) within h =
     let parts = ran (is_legal g s a) (run_of g (step_of g s a) m) t h in
     omega (arith, potential-any g s a within parts.0, potential-run g (step_of g s a) t m (IsWithin-step g s a within) parts.1)
@@ -118,7 +106,7 @@ first-step g s a = first-by (is_over g (acted_of g s a)) _ _ refl refl
 pub first-run : (g : SettingsFields) (s t : StateFields) (a : Action) (m : List Action) → run_of g s (a ∷ m) ≡ Some t → t.effects.first ≡ false
 first-run g s t a [] h =
     let parts = ran (is_legal g s a) (run_of g (step_of g s a) []) t h in
-    let e : step_of g s a ≡ t = same_state (step_of g s a) t parts.1 in
+    let e : step_of g s a ≡ t = some_same (step_of g s a) t parts.1 in
     subst (λ u. u.effects.first ≡ false) e (first-step g s a)
 first-run g s t a (b ∷ m) h =
     let parts = ran (is_legal g s a) (run_of g (step_of g s a) (b ∷ m)) t h in
@@ -132,17 +120,17 @@ pub complete_over : (c d : Bool) → c ≡ true → (c || d) ≡ false → ⊥
 complete_over c d h k = cc
 
 -- a craft that is over goes no further
-over-run : (g : SettingsFields) (s t : StateFields) (m : List Action) → is_over g s ≡ true → run_of g s m ≡ Some t → s ≡ t
-over-run g s t [] over h = same_state s t h
+pub over-run : (g : SettingsFields) (s t : StateFields) (m : List Action) → is_over g s ≡ true → run_of g s m ≡ Some t → s ≡ t
+over-run g s t [] over h = some_same s t h
 over-run g s t (a ∷ m) over h =
     let parts = ran (is_legal g s a) (run_of g (step_of g s a) m) t h in
-    absurd (clash _ over (legal_facts g s a parts.0).live)
+    absurd (clash over (legal_facts g s a parts.0).live)
 
 -- the limit of a state is at least the quality of each complete macro through it
 pub limit-run : (g : SettingsFields) (grain : ℕ) (s t : StateFields) (m : List Action) → 1 ≤ grain → IsWithin g s → s.effects.first ≡ false → is_over g s ≡ false →
     run_of g s m ≡ Some t → is_complete g t ≡ true → option_le (Some (counted g t)) (limit_of g grain s)
 limit-run g grain s t [] low within first live h done =
-    let e : s ≡ t = same_state s t h in
+    let e : s ≡ t = some_same s t h in
     absurd (complete_over (is_complete g s) _ (subst (λ u. is_complete g u ≡ true) (sym e) done) live)
 limit-run g grain s t (a ∷ m) low within first live h done =
     let parts = ran (is_legal g s a) (run_of g (step_of g s a) m) t h in
@@ -157,28 +145,29 @@ limit-run g grain s t (a ∷ m) low within first live h done =
           (limit-law g grain s a record { step = record { within = within; legal = parts.0; live = going }; first = first; low = low })
     ] refl
 
-one_less : (n : ℕ) → suc n - 1 ≡ n
-one_less n = omega arith
-
--- and so is the limit by the number of steps
-pub within-run : (g : SettingsFields) (grain : ℕ) (s t : StateFields) (m : List Action) → 1 ≤ grain → IsWithin g s → s.effects.first ≡ false → is_over g s ≡ false →
-    run_of g s m ≡ Some t → is_complete g t ≡ true → option_le (Some (counted g t)) (within_of g grain s (length m))
-within-run g grain s t [] low within first live h done =
-    let e : s ≡ t = same_state s t h in
+-- and so is the limit within as many steps or more
+pub within-enough : (g : SettingsFields) (grain : ℕ) (s t : StateFields) (m : List Action) (j : ℕ) → 1 ≤ grain → IsWithin g s → s.effects.first ≡ false → is_over g s ≡ false →
+    run_of g s m ≡ Some t → is_complete g t ≡ true → length m ≤ j → option_le (Some (counted g t)) (within_of g grain s j)
+within-enough g grain s t [] j low within first live h done enough =
+    let e : s ≡ t = some_same s t h in
     absurd (complete_over (is_complete g s) _ (subst (λ u. is_complete g u ≡ true) (sym e) done) live)
-within-run g grain s t (a ∷ m) low within first live h done =
+within-enough g grain s t (a ∷ m) j low within first live h done enough =
     let parts = ran (is_legal g s a) (run_of g (step_of g s a) m) t h in
-    let rest = within-run g grain (step_of g s a) t m low (IsWithin-step g s a within) (first-step g s a) in
-    elim (is_over g (step_of g s a)) as (λ b. is_over g (step_of g s a) ≡ b → option_le (Some (counted g t)) (within_of g grain s (suc (length m)))) [
+    let some : 1 ≤ j = omega (arith, enough) in
+    let rest = within-enough g grain (step_of g s a) t m (j - 1) low (IsWithin-step g s a within) (first-step g s a) in
+    elim (is_over g (step_of g s a)) as (λ b. is_over g (step_of g s a) ≡ b → option_le (Some (counted g t)) (within_of g grain s j)) [
       | true ↦ λ over.
           let e : step_of g s a ≡ t = over-run g (step_of g s a) t m over parts.1 in
-          subst (λ u. option_le (Some (counted g u)) (within_of g grain s (suc (length m)))) e
-          (last-within g grain s a (suc (length m)) record { step = record { within = within; legal = parts.0; done = subst (λ u. is_complete g u ≡ true) (sym e) done }; first = first; low = low } (omega arith))
+          subst (λ u. option_le (Some (counted g u)) (within_of g grain s j)) e
+          (last-within g grain s a j record { step = record { within = within; legal = parts.0; done = subst (λ u. is_complete g u ≡ true) (sym e) done }; first = first; low = low } some)
       | false ↦ λ going.
-          option_le-trans (Some (counted g t)) _ _ (rest going parts.1 done)
-          (subst (λ (n : ℕ). option_le (within_of g grain (step_of g s a) n) (within_of g grain s (suc (length m)))) (one_less (length m))
-          (within-law g grain s a (suc (length m)) record { step = record { within = within; legal = parts.0; live = going }; first = first; low = low } (omega arith)))
+          option_le-trans (Some (counted g t)) _ _ (rest going parts.1 done (omega (arith, enough)))
+          (within-law g grain s a j record { step = record { within = within; legal = parts.0; live = going }; first = first; low = low } some)
     ] refl
+
+pub within-run : (g : SettingsFields) (grain : ℕ) (s t : StateFields) (m : List Action) → 1 ≤ grain → IsWithin g s → s.effects.first ≡ false → is_over g s ≡ false →
+    run_of g s m ≡ Some t → is_complete g t ≡ true → option_le (Some (counted g t)) (within_of g grain s (length m))
+within-run g grain s t m low within first live h done = within-enough g grain s t m (length m) low within first live h done (omega arith)
 
 -- a state that isn't less has no lower limits
 ap_le : (f : EffectFields → ℕ) (e e' : EffectFields) → e ≡ e' → f e ≤ f e'
@@ -229,6 +218,6 @@ if_less false o o' m h = omega arith
 pub within-not_less : (g : SettingsFields) (grain : ℕ) (a b : StateFields) (j : ℕ) → 1 ≤ grain → IsWithin g a → IsNotLess a b → option_le (within_of g grain b j) (within_of g grain a j)
 unfolding within_of
 within-not_less g grain a b j low within h =
-    if_less (nat_le j most_moves) _ _ (cap_of g)
+    if_less (nat_le j MOST_MOVES) _ _ (cap_of g)
     (capped-more g b a _ _ h.quality
     (subst (λ x. option_le (best_plan one g grain j x) (best_plan one g grain j (relax_of g grain a))) (sym (same-relaxed g grain a b h)) (option_le-refl _)))

@@ -1,19 +1,21 @@
 -- The relaxed state of the next state, against the move.
 use Rattle.std.proofs.Common.{ℕ, Bool, true, false, None, ◌≡◌, ◌≤◌, ◌<◌, ◌+◌, ◌-◌, ◌*◌, ◌/◌, nat_lt, nat_le, min, refl, arith, if◌then◌else◌}
+use Rattle.plain_lemmas.proofs.Tests.{clash}
 use Rattle.std.proofs.lemmas.Nat.{div-add-mod', le-div}
 use Rattle.action_table.specs.declared.action.Action.{Action}
 use Rattle.action_table.specs.declared.action.Action.TheVariants.{BasicSynthesis, Veneration, Innovation, GreatStrides, MuscleMemory, Reflect, TrainedEye, ByregotsBlessing, TrainedFinesse, RefinedTouch, Groundwork}
 use Rattle.action_table.specs.Table.{row_of}
-use Rattle.craft_numbers.specs.Gains.{progress_gain_of, quality_gain_of}
+use Rattle.craft_numbers.specs.Gains.{progress_gain_of}
 use Rattle.craft_state.specs.declared.Combo.{Combo}
 use Rattle.craft_state.specs.declared.Combo.TheVariants.{Basic}
 use Rattle.craft_state.specs.Craft.{EffectFields, StateFields, AreEffects}
 use Rattle.craft_settings.specs.Ranges.{SettingsFields}
 use Rattle.craft_settings.specs.Rules.{is_allowed}
 use Rattle.combo_effects.specs.Combos.{tick_of, after_of}
+use Rattle.combo_effects.specs.Touches.{stacks_of, iq_after}
 use Rattle.step_rules.specs.Legality.{effect_reason}
-use Rattle.step_rules.specs.Step.{progress_efficiency, quality_efficiency, progress_after, quality_after, stacks_of, iq_after, used_effects, acted_of, settled_of, step_of}
-use Rattle.relaxed_moves.specs.Moves.{RelaxedFields, AreRelaxed, IsNoBetter, is_listed, has_stacks, is_move_of, unit_of, relax_of, move_gain_of, move_stacks, move_iq, move_innovation, move_veneration, move_strides, move_progress, move_on_of}
+use Rattle.step_rules.specs.Step.{progress_efficiency, touch_gain, progress_after, quality_after, used_effects, acted_of, settled_of, step_of}
+use Rattle.relaxed_moves.specs.Moves.{RelaxedFields, AreRelaxed, IsNoBetter, is_listed, has_stacks, is_move_of, unit_of, relax_of, move_gain_of, move_innovation, move_veneration, move_strides, move_progress, move_on_of}
 use Rattle.relaxed_moves.proofs.Order.{div-more, progress_gain-more}
 use Rattle.admissible.specs.Laws.{GoesOn}
 use Rattle.admissible.proofs.Potential.{goes-acted, step-settled}
@@ -31,7 +33,7 @@ opens-not e Reflect later ready = grind arith
 opens-not e TrainedEye later ready = grind arith
 opens-not e _ later ready = refl
 
-stacks-le : (g : SettingsFields) (combo : Combo) (a : Action) → stacks_of g combo a ≤ move_stacks g a
+stacks-le : (g : SettingsFields) (combo : Combo) (a : Action) → stacks_of g.level combo a ≤ stacks_of g.level Basic a
 stacks-le g Basic RefinedTouch = omega arith
 stacks-le g _ RefinedTouch = omega arith
 stacks-le g Basic BasicSynthesis = omega arith
@@ -41,14 +43,11 @@ capped-more : (c : Bool) (n a b : ℕ) → a ≤ b → (if c then min 10 (n + a)
 capped-more true n a b h = omega arith
 capped-more false n a b h = omega arith
 
-clash : (t : Bool) → t ≡ true → t ≡ false → ⊥
-clash t h k = cc
-
 kept_on : (c on : Bool) → (if c then false else on) ≡ true → on ≡ true
 kept_on true on h = absurd (cc)
 kept_on false on h = h
 
-iq-le : (g : SettingsFields) (e : EffectFields) (a : Action) → iq_after g e a ≤ move_iq g e.iq a
+iq-le : (g : SettingsFields) (e : EffectFields) (a : Action) → iq_after g.level e.iq e.combo a ≤ iq_after g.level e.iq Basic a
 iq-le g e ByregotsBlessing = omega arith
 iq-le g e RefinedTouch = let more = stacks-le g e.combo RefinedTouch in capped-more (nat_le 11 g.level) e.iq _ _ more
 iq-le g e a = let more = stacks-le g e.combo a in capped-more (nat_le 11 g.level) e.iq _ _ more
@@ -58,10 +57,10 @@ if_le true a b n h = h
 if_le false a b n h = omega arith
 
 step-iq : (g : SettingsFields) (e : EffectFields) (a : Action) →
-    (after_of (tick_of (used_effects g e a)) a).iq ≤ (if nat_lt 0 (row_of a g.level).quality then move_iq g e.iq a else e.iq)
+    (after_of (tick_of (used_effects g e a)) a).iq ≤ (if nat_lt 0 (row_of a g.level).quality then iq_after g.level e.iq Basic a else e.iq)
 unfolding tick_of after_of
-step-iq g e BasicSynthesis = if_le (nat_lt 0 (row_of BasicSynthesis g.level).quality) (iq_after g e BasicSynthesis) (move_iq g e.iq BasicSynthesis) e.iq (iq-le g e BasicSynthesis)
-step-iq g e a = if_le (nat_lt 0 (row_of a g.level).quality) (iq_after g e a) (move_iq g e.iq a) e.iq (iq-le g e a)
+step-iq g e BasicSynthesis = if_le (nat_lt 0 (row_of BasicSynthesis g.level).quality) (iq_after g.level e.iq e.combo BasicSynthesis) (iq_after g.level e.iq Basic BasicSynthesis) e.iq (iq-le g e BasicSynthesis)
+step-iq g e a = if_le (nat_lt 0 (row_of a g.level).quality) (iq_after g.level e.iq e.combo a) (iq_after g.level e.iq Basic a) e.iq (iq-le g e a)
 
 step-innovation : (g : SettingsFields) (e : EffectFields) (a : Action) → (after_of (tick_of (used_effects g e a)) a).innovation ≤ move_innovation e.innovation a
 unfolding tick_of after_of
@@ -109,8 +108,8 @@ gained_if false q n x = omega arith
 pub quality-le : (g : SettingsFields) (grain : ℕ) (s : StateFields) (a : Action) → opens a ≡ false → quality_after g s a ≤ s.quality + move_gain_of g (relax_of g grain s) a
 unfolding relax_of move_gain_of
 quality-le g grain s TrainedEye later = absurd (cc)
-quality-le g grain s ByregotsBlessing later = gained_if (nat_lt 0 (row_of ByregotsBlessing g.level).quality) g.quality s.quality (quality_gain_of g.base_quality (quality_efficiency g s.effects ByregotsBlessing) s.effects.iq (nat_lt 0 s.effects.innovation) (nat_lt 0 s.effects.strides))
-quality-le g grain s a later = gained_if (nat_lt 0 (row_of a g.level).quality) g.quality s.quality (quality_gain_of g.base_quality (quality_efficiency g s.effects a) s.effects.iq (nat_lt 0 s.effects.innovation) (nat_lt 0 s.effects.strides))
+quality-le g grain s ByregotsBlessing later = gained_if (nat_lt 0 (row_of ByregotsBlessing g.level).quality) g.quality s.quality (touch_gain g s.effects ByregotsBlessing)
+quality-le g grain s a later = gained_if (nat_lt 0 (row_of a g.level).quality) g.quality s.quality (touch_gain g s.effects a)
 
 -- the bucket of what is left is at least that of the move
 bucket-le : (p n n' u gain : ℕ) → 0 < u → n' ≤ n + gain → ((p - n) / u * u - gain) / u ≤ (p - n') / u
@@ -159,9 +158,9 @@ rest-quality g _ allowed rest later = grind arith
 
 rest-effects : (g : SettingsFields) (a : Action) (n m : ℕ) (on : Bool) → is_allowed g a ≡ true → is_listed g a ≡ false →
     (move_innovation n a ≡ n - 1) × (move_veneration m a ≡ m - 1) × (move_strides g on a ≡ true → on ≡ true)
-rest-effects g Innovation n m on allowed rest = absurd (clash _ allowed rest)
-rest-effects g Veneration n m on allowed rest = absurd (clash _ allowed rest)
-rest-effects g GreatStrides n m on allowed rest = absurd (clash _ allowed rest)
+rest-effects g Innovation n m on allowed rest = absurd (clash allowed rest)
+rest-effects g Veneration n m on allowed rest = absurd (clash allowed rest)
+rest-effects g GreatStrides n m on allowed rest = absurd (clash allowed rest)
 rest-effects g a n m on allowed rest = (refl, refl, λ h. kept_on (nat_lt 0 (row_of a g.level).quality) on h)
 
 no_progress : (base p : ℕ) (v w : Bool) → p ≡ 0 → progress_gain_of base p v w ≡ 0
@@ -203,10 +202,6 @@ IsNoBetter-trans x y z h k = record {
   strides = λ e. k.strides (h.strides e);
   muscle = λ e. k.muscle (h.muscle e);
 }
-
-pub AreRelaxed-relax : (g : SettingsFields) (grain : ℕ) (s : StateFields) → AreEffects s.effects → AreRelaxed (relax_of g grain s)
-unfolding relax_of
-AreRelaxed-relax g grain s bounds = record { iq = bounds.iq; innovation = bounds.innovation; veneration = bounds.veneration }
 
 stacks-ready : (g : SettingsFields) (grain : ℕ) (s : StateFields) (a : Action) → effect_reason s.effects a ≡ None → has_stacks (relax_of g grain s) a ≡ true
 unfolding relax_of

@@ -1,4 +1,4 @@
-// The laws that make the bounds admissible: no step raises what a craft can still reach.
+//! The laws that make the bounds admissible: no step raises what a craft can still reach.
 #![tactic(auto)]
 
 ghost use Rattle.std.specs.Prelude.{ℕ, ◌≡◌, ◌≤◌, ◌+◌, ◌-◌, true, false, Some, IsTrue, MatchOption};
@@ -21,7 +21,8 @@ mod tests;
 
 /// The cost in CP of an action that is in the list of relaxed moves, and None for a rest.
 pub fn move_of(g: &Settings, action: Action) -> Option<u32>
-    ensures { MatchOption result (is_listed g.now action ≡ false) (λ cost. (is_listed g.now action ≡ true) × (cost ≡ cost_of g.now action)) }
+    ensures { MatchOption result (is_listed g.now action ≡ false) (λ cost. (is_listed g.now action ≡ true) ×
+        (cost ≡ cost_of g.now action)) }
 {
     if is_listed(g, action) {
         Some(move_cost(g, action))
@@ -55,11 +56,13 @@ pub fn step_law(g: &Settings, grain: u32, s: &State, action: Action) -> Relaxed
     ensures value { result ≡ relax_of g.now grain (step_of g.now s.now action) }
     ensures bucket { result.bucket ≤ grain }
     ensures move_state { is_listed g.now action ≡ true → IsNoBetter result (move_on_of g.now grain (relax_of g.now grain s.now) action) }
-    ensures move_potential { is_listed g.now action ≡ true → potential_of g.now (step_of g.now s.now action) + cost_of g.now action ≤ potential_of g.now s.now }
+    ensures move_potential { is_listed g.now action ≡ true → potential_of g.now (step_of g.now s.now action) + cost_of g.now action ≤
+        potential_of g.now s.now }
     ensures rest_state { is_listed g.now action ≡ false → IsNoBetter result (relax_of g.now grain s.now) }
     ensures rest_potential { is_listed g.now action ≡ false → potential_of g.now (step_of g.now s.now action) ≤ potential_of g.now s.now }
     ensures limit { option_le (limit_of g.now grain (step_of g.now s.now action)) (limit_of g.now grain s.now) }
-    ensures within { (j : ℕ) → 1 ≤ j → option_le (within_of g.now grain (step_of g.now s.now action) (j - 1)) (within_of g.now grain s.now j) }
+    ensures within { (j : ℕ) → 1 ≤ j → option_le (within_of g.now grain (step_of g.now s.now action) (j - 1))
+        (within_of g.now grain s.now j) }
 {
     relax(g, grain, &step(g, s, action))
 }

@@ -1,20 +1,7 @@
 use super::*;
 use std::test::Fail;
 use step_rules::{check, is_final, replay, start};
-
-const SMALL: Settings = Settings {
-    level: 26,
-    cp: 54,
-    durability: 20,
-    progress: 150,
-    quality: 500,
-    initial: 0,
-    base_progress: 100,
-    base_quality: 100,
-    forbidden: 33554432,
-    target: 500,
-    backload: false,
-};
+use test_crafts::FOUR_STEPS;
 
 // The potential after one more action that leaves the craft going.
 fn potential_after(g: &Settings, before: &[Action], action: Action) -> Option<u32> {
@@ -60,7 +47,7 @@ fn last_after(g: &Settings, before: &[Action], action: Action) -> Option<State> 
 
 #[test]
 fn small_craft(rt: HostRuntime) -> Result<(), Fail> {
-    let g = SMALL;
+    let g = FOUR_STEPS;
     assert_eq!(rt; potential(&g, &start(&g)), 124);
     assert_eq!(rt; potential_after(&g, &[], Action::Veneration), Some(106));
     assert_eq!(rt; move_of(&g, Action::Observe), None);

@@ -1,8 +1,9 @@
-// What an action costs, wears and leaves behind.
+//! What an action costs, wears and leaves behind.
 #![tactic(auto)]
 
 ghost use Rattle.std.specs.Prelude.{◌≡◌, ◌≤◌, ◌%◌};
-ghost use Rattle.combo_effects.specs.Combos.{cp_cost_of, wear_of, tick_of, after_of, next_combo};
+ghost use Rattle.combo_effects.specs.Combos.{cp_cost_of, wear_of, tick_of, duration_of, after_of, next_combo};
+ghost use Rattle.combo_effects.specs.Touches.{quality_efficiency, iq_after};
 
 use action_table::{Action, row};
 use craft_state::{Combo, Effects, Perfection};
@@ -55,6 +56,20 @@ pub fn tick(effects: &Effects) -> Effects
     next
 }
 
+/// How many steps the action's own effect lasts, 0 for an action without a timed one.
+pub fn duration(action: Action) -> u32
+    ensures value { result ≡ duration_of action }
+    ensures range { result ≤ 8 }
+{
+    match action {
+        Action::WasteNot | Action::Veneration | Action::Innovation => 4,
+        Action::WasteNotII | Action::Manipulation => 8,
+        Action::GreatStrides => 3,
+        Action::MuscleMemory => 5,
+        _ => 0,
+    }
+}
+
 /// The effects with what the action sets, and the combo that it leaves.
 #[tactic(auto, unfolding(crate::specs::Combos::after_of))]
 pub fn after(effects: &Effects, action: Action) -> Effects
@@ -62,18 +77,52 @@ pub fn after(effects: &Effects, action: Action) -> Effects
 {
     let mut next = *effects;
     match action {
-        Action::WasteNot => next.waste = 4,
-        Action::WasteNotII => next.waste = 8,
-        Action::Veneration => next.veneration = 4,
-        Action::Innovation => next.innovation = 4,
-        Action::GreatStrides => next.strides = 3,
-        Action::MuscleMemory => next.muscle = 5,
-        Action::Manipulation => next.manipulation = 8,
+        Action::WasteNot | Action::WasteNotII => next.waste = duration(action),
+        Action::Veneration => next.veneration = duration(action),
+        Action::Innovation => next.innovation = duration(action),
+        Action::GreatStrides => next.strides = duration(action),
+        Action::MuscleMemory => next.muscle = duration(action),
+        Action::Manipulation => next.manipulation = duration(action),
         Action::TrainedPerfection => next.perfection = Perfection::On,
         _ => {}
     }
     next.combo = combo_after(effects.combo, action);
     next
+}
+
+/// The quality efficiency of an action, in percent, at a crafter's level of 1 to 100 with `iq` stacks of Inner Quiet, at
+/// most 10. It is 0 for an action that isn't a touch.
+pub fn quality_efficiency(action: Action, level: u32, iq: u32) -> u32
+    requires low { 1 ≤ level }
+    requires high { level ≤ 100 }
+    requires stacks { iq ≤ 10 }
+    ensures value { result ≡ quality_efficiency level iq action }
+    ensures range { result ≤ 300 }
+{
+    match action {
+        Action::ByregotsBlessing => 100 + 20 * iq,
+        _ => row(action, level).quality,
+    }
+}
+
+/// The stacks of Inner Quiet after a touch from `iq` stacks, at most 10, at a crafter's level of 1 to 100.
+pub fn stacks_after(action: Action, level: u32, iq: u32, combo: Combo) -> u32
+    requires low { 1 ≤ level }
+    requires high { level ≤ 100 }
+    requires stacks { iq ≤ 10 }
+    ensures value { result ≡ iq_after level iq combo action }
+    ensures range { result ≤ 10 }
+{
+    let stacks = match (combo, action) {
+        (_, Action::ByregotsBlessing) => return 0,
+        (Combo::Basic, Action::RefinedTouch) => 2,
+        _ => row(action, level).stacks,
+    };
+    if level >= 11 {
+        (iq + stacks).min(10)
+    } else {
+        iq
+    }
 }
 
 // The combo that an action leaves.

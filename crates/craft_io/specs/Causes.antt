@@ -22,8 +22,3 @@ CountsRead before now (Err _) = now ≡ before
 abbrev pub CountsFault : {T E : Type 0} → ℕ → ℕ → Result T E → Type 0
 CountsFault before now (Ok _) = now ≡ before
 CountsFault before now (Err _) = now ≡ next_count before
-
--- so many reads at most succeeded
-pub record ReadsAtMostTimes (times before now : ℕ) : Type 0 where
-  pub later : before ≤ now
-  pub most : now ≤ before + times

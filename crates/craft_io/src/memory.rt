@@ -43,11 +43,7 @@ impl<'a> MemorySource<'a> {
 }
 
 impl<'a> Source for MemorySource<'a> {
-    ghost left = { λ s. Some s.rest.now };
-
-    ghost faults = { λ s. s.faults };
-
-    ghost reads = { λ s. s.reads };
+    ghost view = { λ s. record { left = Some s.rest.now; faults = s.faults; reads = s.reads } };
 
     fn read(&mut self, buf: &mut [u8]) -> Result<usize, Failed>
         ensures bound { ReadsAtMost result buf.new }
@@ -120,20 +116,21 @@ impl<'a> MemorySink<'a> {
 }
 
 impl<'a> Sink for MemorySink<'a> {
-    ghost taken = { λ s. Some (take s.used s.room.now) };
-
-    ghost faults = { λ s. s.faults };
+    ghost view = { λ s. record { taken = Some (take s.used s.room.now); faults = s.faults } };
 
     fn write(&mut self, piece: &[u8]) -> Result<usize, Failed>
         requires { 0 < length piece.now }
         ensures bound { IfOk result (λ n. (0 < n) × (n ≤ length piece.now)) }
-        ensures bytes { IfOk result (λ n. Appends (Some (take self.old.used self.old.room.now)) (Some (take self.new.used self.new.room.now)) (take n piece.now)) }
+        ensures bytes { IfOk result (λ n. Appends (Some (take self.old.used self.old.room.now))
+            (Some (take self.new.used self.new.room.now)) (take n piece.now)) }
         ensures kept { OnErr result (Keeps (Some (take self.old.used self.old.room.now)) (Some (take self.new.used self.new.room.now))) }
         ensures faults { CountsFault self.old.faults self.new.faults result }
-        ensures fails { IsErr result ↔ (Contains self.old.fails.now (next_count self.old.calls) ⊎ (length self.old.room.now ≤ self.old.used)) }
+        ensures fails { IsErr result ↔
+            (Contains self.old.fails.now (next_count self.old.calls) ⊎ (length self.old.room.now ≤ self.old.used)) }
         ensures count { IfOk result (λ n. n ≡ min self.old.piece (min (length piece.now) (length self.old.room.now - self.old.used))) }
         ensures calls { self.new.calls ≡ next_count self.old.calls }
-        ensures same { (self.new.piece ≡ self.old.piece) × (self.new.fails.now ≡ self.old.fails.now) × (length self.new.room.now ≡ length self.old.room.now) }
+        ensures same { (self.new.piece ≡ self.old.piece) × (self.new.fails.now ≡ self.old.fails.now) }
+        ensures size { length self.new.room.now ≡ length self.old.room.now }
     {
         self.calls = self.calls.saturating_add(1);
         if self.fails.contains(&self.calls) || self.used >= self.room.len() {

@@ -31,11 +31,7 @@ impl<R: Read + Drop> StdSource<R> {
 }
 
 impl<R: Read + Drop> Source for StdSource<R> {
-    ghost left = { λ s. R.remaining s.reader };
-
-    ghost faults = { λ s. s.faults };
-
-    ghost reads = { λ s. s.reads };
+    ghost view = { λ s. record { left = R.remaining s.reader; faults = s.faults; reads = s.reads } };
 
     fn read(&mut self, buf: &mut [u8]) -> Result<usize, Failed> {
         match self.reader.read(buf) {
@@ -72,9 +68,7 @@ impl<W: Write + Drop> StdSink<W> {
 }
 
 impl<W: Write + Drop> Sink for StdSink<W> {
-    ghost taken = { λ _. None };
-
-    ghost faults = { λ s. s.faults };
+    ghost view = { λ s. record { taken = None; faults = s.faults } };
 
     // A writer that takes nothing has failed, and so has one that can't be flushed.
     fn write(&mut self, piece: &[u8]) -> Result<usize, Failed>

@@ -1,4 +1,4 @@
-// The formulas of a craft.
+//! The formulas of a craft.
 #![tactic(auto)]
 
 ghost use Rattle.std.specs.Prelude.{◌≡◌, ◌≤◌, ◌+◌, min};

@@ -1,22 +1,20 @@
 -- A file without a fault is accepted with some settings.
-use Rattle.std.proofs.Common.{◌≡◌, ◌≤◌, ◌<◌, ◌^◌, ◌*◌, ◌%◌, ◌||◌, ◌&&◌, ◌==◌, not, ◌↔◌, ℕ, Bool, true, false, max, List, [], ◌∷◌, length, Option, None, Some, Ok, Err, refl, sym, ap, ◌∙◌, arith, nat_lt, nat_eq, if◌then◌else◌, option_map}
+use Rattle.std.proofs.Common.{◌≡◌, ◌≤◌, ◌<◌, ◌^◌, ◌*◌, ◌%◌, ◌||◌, ◌&&◌, ◌==◌, not, ◌↔◌, ℕ, Bool, true, false, max, List, [], ◌∷◌, length, Option, None, Some, refl, ap, ◌∙◌, arith, nat_lt, nat_eq, if◌then◌else◌}
 use Rattle.std.proofs.lemmas.Bool.Decides.{nat_tests}
 use Rattle.std.specs.Int.{bit_at}
 use Rattle.std.specs.Int.RustNames.{bit_or}
-use Rattle.std.specs.Option.{option_eq}
 use Rattle.toml.specs.Data.{Members}
 use Rattle.action_table.specs.declared.action.Action.{Action}
 use Rattle.action_table.specs.declared.action.Action.TheVariants.{BasicSynthesis}
 use Rattle.action_table.specs.Table.{number_of}
-use Rattle.craft_settings.specs.declared.fault.SettingsFault.{SettingsFault}
-use Rattle.craft_settings.specs.declared.fault.SettingsFault.TheVariants.{TooLong, NotToml}
+use Rattle.craft_settings.specs.declared.fault.SettingsFault.TheVariants.{TooLong}
 use Rattle.craft_settings.specs.Ranges.{SettingsFields}
 use Rattle.craft_settings.specs.Keys.{level_key, cp_key, durability_key, progress_key, quality_key, initial_quality_key, target_key, trained_eye_key, backload_key}
 use Rattle.craft_settings.specs.Document.{document, is_two}
 use Rattle.craft_settings.specs.Names.{flag_at, names, action_of, are_against, is_ruled_out, lacks_eye, bit}
-use Rattle.craft_settings.specs.Reading.{number_at, base_progress, base_quality, first_fault, file_fault, document_fault, max_length}
+use Rattle.craft_settings.specs.Reading.{number_at, base_progress, base_quality, first_fault, file_fault, file_fault_by, document_fault_by, max_length}
 use Rattle.craft_settings.specs.Steps.{Adds}
-use Rattle.craft_settings.specs.Accepts.{Gives, Accepts, IsAccepted, HasFault}
+use Rattle.craft_settings.specs.Accepts.{GivesBy, IsAccepted, HasFault}
 use Rattle.craft_settings.proofs.ForbidLemmas.{bit_at-set, bit_at-start, bit_at-empty}
 use Rattle.craft_settings.proofs.Unique.{file_fault-accepted}
 
@@ -59,7 +57,7 @@ mask_of two (name ∷ ns) start =
 -- some number has the bits of the actions that the document forbids
 record RulesOut (doc : Members) : Type 0 where
   pub mask : ℕ
-  pub bits : (n : ℕ) → bit_at mask n ≡ bit (is_ruled_out doc n)
+  pub bits : (n : ℕ) → bit_at mask n ≡ bit (is_ruled_out (is_two doc) doc n)
 
 bit-max : (a b : Bool) → max (bit a) (bit b) ≡ bit (a || b)
 bit-max true true = refl
@@ -85,7 +83,7 @@ rules_out doc =
 -- each document gives settings
 record GivesSome (doc : Members) : Type 0 where
   pub settings : SettingsFields
-  pub gives : Gives doc settings
+  pub gives : GivesBy (is_two doc) doc settings
 
 gives_some : (doc : Members) → GivesSome doc
 gives_some doc =
@@ -126,13 +124,13 @@ record IsPlain (long : Bool) (parsed : Option Members) : Type 0 where
   pub is : parsed ≡ Some doc
   pub none : first_fault doc ≡ None
 
-plain : (long : Bool) (parsed : Option Members) → (if long then Some TooLong else document_fault parsed) ≡ None → IsPlain long parsed
+plain : (long : Bool) (parsed : Option Members) → (if long then Some TooLong else document_fault_by is_two parsed) ≡ None → IsPlain long parsed
 plain true parsed h = absurd (cc)
 plain false None h = absurd (cc)
 plain false (Some doc) h = record { short = refl; doc = doc; is = refl; none = h }
 
 pub accepted-from : (bytes : List ℕ) → file_fault bytes ≡ None → IsAccepted bytes
-unfolding file_fault
+unfolding file_fault_by
 accepted-from bytes none =
     let facts = plain (nat_lt max_length (length bytes)) (document bytes) none in
     let given = gives_some facts.doc in
@@ -143,14 +141,14 @@ accepted-from bytes none =
     }
 
 pub accepted-exactly : (bytes : List ℕ) → (file_fault bytes ≡ None) ↔ IsAccepted bytes
-accepted-exactly bytes = (accepted-from bytes, λ a. file_fault-accepted bytes a.settings a.accepts)
+accepted-exactly bytes = (accepted-from bytes, λ a. file_fault-accepted is_two bytes a.settings a.accepts)
 
 fault-none : (bytes : List ℕ) → HasFault bytes → file_fault bytes ≡ None → ⊥
 fault-none bytes f none = cc (f.is)
 
 pub fault-exactly : (bytes : List ℕ) → HasFault bytes ↔ (IsAccepted bytes → ⊥)
 fault-exactly bytes = (
-  λ f a. fault-none bytes f (file_fault-accepted bytes a.settings a.accepts),
+  λ f a. fault-none bytes f (file_fault-accepted is_two bytes a.settings a.accepts),
   λ refused. elim (file_fault bytes) as (λ o. file_fault bytes ≡ o → HasFault bytes) [
     | None ↦ λ none. absurd (refused (accepted-from bytes none))
     | Some fault ↦ λ is. record { fault = fault; is = is }

@@ -9,7 +9,7 @@ use Rattle.std.specs.Option.{option_map_or, option_and_then, is_none}
 use Rattle.toml.specs.Data.{get, get_member, as_table}
 use Rattle.craft_settings.specs.declared.keys.Section.{Section}
 use Rattle.craft_settings.specs.declared.keys.Section.TheVariants.{Top, Crafter, Recipe, Base, Actions}
-use Rattle.craft_settings.specs.Keys.{rule_of, name_of, section_name}
+use Rattle.craft_settings.specs.Keys.{row_of, section_name}
 use Rattle.craft_settings.specs.Document.{document, section_data, value_of, value_at, is_shut}
 
 pub document-text : (bytes : List ℕ) (m : Option Members) → IsUtf8 bytes → parse_document bytes ≡ m → document bytes ≡ m
@@ -32,13 +32,13 @@ section_data-other doc Recipe other = refl
 section_data-other doc Base other = refl
 section_data-other doc Actions other = refl
 
-pub value_at-top : (doc : Members) (place : ℕ) → (rule_of place).section ≡ Top → value_at doc place ≡ get_member (name_of place) doc
+pub value_at-top : (doc : Members) (place : ℕ) → (row_of place).section ≡ Top → value_at doc place ≡ get_member (row_of place).name doc
 unfolding value_of section_data
 value_at-top doc place top = rw top
 
-pub value_at-other : (doc : Members) (place : ℕ) → ((rule_of place).section ≡ Top → ⊥) → value_at doc place ≡ option_and_then (get (name_of place)) (get_member (section_name (rule_of place).section) doc)
+pub value_at-other : (doc : Members) (place : ℕ) → ((row_of place).section ≡ Top → ⊥) → value_at doc place ≡ option_and_then (get (row_of place).name) (get_member (section_name (row_of place).section) doc)
 unfolding value_of
-value_at-other doc place other = rw (section_data-other doc (rule_of place).section other)
+value_at-other doc place other = rw (section_data-other doc (row_of place).section other)
 
 pub is_shut-other : (doc : Members) (s : Section) → (s ≡ Top → ⊥) → is_shut doc s ≡ option_map_or (λ d. is_none (as_table d)) (get_member (section_name s) doc) false
 unfolding is_shut

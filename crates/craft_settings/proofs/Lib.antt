@@ -5,5 +5,6 @@ pub mod ActionNames
 pub mod ForbidLemmas
 pub mod Unique
 pub mod Places
+pub mod KeyLoops
 pub mod FirstLemmas
 pub mod Accepted

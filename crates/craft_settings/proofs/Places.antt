@@ -1,17 +1,17 @@
 -- The first fault, key by key, is the first that the steps find.
-use Rattle.std.proofs.Common.{◌≡◌, ◌==◌, ◌&&◌, ◌++◌, ℕ, ℤ, Bool, true, false, not, List, [], ◌∷◌, Option, Some, None, option_map, refl, sym, ◌∙◌, inl, inr, codes}
-use Rattle.std.specs.List.{list_all}
+use Rattle.std.proofs.Common.{◌≡◌, ◌+◌, ◌==◌, ◌&&◌, ◌++◌, ℕ, ℤ, Bool, true, false, not, List, [], ◌∷◌, Option, Some, None, option_map, refl, sym, ◌∙◌, inl, inr, codes}
+use Rattle.std.specs.List.{filter, list_all, range_with_len}
 use Rattle.std.specs.Option.{option_or, is_none}
 use Rattle.std.proofs.lemmas.Bool.{cases_Bool, and_parts, false≢true}
 use Rattle.toml.specs.Data.{Data, Members, get_member}
 use Rattle.craft_settings.specs.declared.fault.SettingsFault.{SettingsFault}
 use Rattle.craft_settings.specs.declared.fault.SettingsFault.TheVariants.{OutOfRange}
 use Rattle.craft_settings.specs.declared.keys.Kind.{Kind}
-use Rattle.craft_settings.specs.declared.keys.Kind.TheVariants.{Table, Flag, Names}
-use Rattle.craft_settings.specs.Keys.{row_of, rows, section_name, places, version_key, crafter_key, level_key, cp_key, craftsmanship_key, control_key, recipe_key, durability_key, progress_key, quality_key, initial_quality_key, progress_div_key, quality_div_key, progress_mod_key, quality_mod_key, penalty_key, target_key, trained_eye_key, base_key, base_progress_key, base_quality_key, actions_key, forbid_key, backload_key}
-use Rattle.craft_settings.specs.Document.{value_of, section_data, is_stats, is_two}
+use Rattle.craft_settings.specs.declared.keys.Kind.TheVariants.{Table, Number, Fives, Flag, Names}
+use Rattle.craft_settings.specs.Keys.{row_of, rows, section_name, has_key, places, base_progress_key, base_quality_key}
+use Rattle.craft_settings.specs.Document.{value_of, section_data, is_stats}
 use Rattle.craft_settings.specs.Fault.{first_some, fits, stray, integer_of}
-use Rattle.craft_settings.specs.Reading.{computed_at, number_here, range_at, value_fault, first_fault, stats_progress, stats_quality}
+use Rattle.craft_settings.specs.Reading.{computed_at, number_here, range_at, value_fault, fault_by, stats_progress, stats_quality}
 use Rattle.craft_settings.specs.Steps.{outside_at, base_fault, computed_fault, given_fault, step_fault}
 
 or-assoc : (a b c : Option SettingsFault) → option_or (option_or a b) c ≡ option_or a (option_or b c)
@@ -72,11 +72,26 @@ unfolding stray
 fits-none kind place None all = refl
 fits-none kind place (Some z) all = rw (all z)
 
--- the keys after the base values have no numbers
-back-none : (doc : Members) → (outside_at doc actions_key ≡ None) × (outside_at doc forbid_key ≡ None) × (outside_at doc backload_key ≡ None)
-unfolding outside_at row_of rows
-back-none doc =
-    (fits-none Table actions_key (integer_of doc (row_of actions_key)) (λ z. refl), fits-none Names forbid_key (integer_of doc (row_of forbid_key)) (λ z. refl), fits-none Flag backload_key (integer_of doc (row_of backload_key)) (λ z. refl))
+abbrev is_number : Kind → Bool
+is_number (Number low high) = true
+is_number (Fives low high) = true
+is_number _ = false
+
+fits-other : (kind : Kind) (z : ℤ) → is_number kind ≡ false → fits kind z ≡ true
+fits-other (Number low high) z other = absurd (false≢true (sym other))
+fits-other (Fives low high) z other = absurd (false≢true (sym other))
+fits-other Table z other = refl
+fits-other Flag z other = refl
+fits-other Names z other = refl
+
+stray-other : (kind : Kind) (o : Option ℤ) → is_number kind ≡ false → stray kind o ≡ None
+unfolding stray
+stray-other kind None other = refl
+stray-other kind (Some z) other = rw (fits-other kind z other)
+
+outside-other : (doc : Members) (place : ℕ) → is_number (row_of place).kind ≡ false → outside_at doc place ≡ None
+unfolding outside_at
+outside-other doc place other = rw (stray-other (row_of place).kind (integer_of doc (row_of place)) other)
 
 outside-absent : (doc : Members) (place : ℕ) → integer_of doc (row_of place) ≡ None → outside_at doc place ≡ None
 unfolding outside_at stray
@@ -90,14 +105,15 @@ range-quality : (doc : Members) → is_stats doc ≡ true → integer_of doc (ro
 unfolding range_at base_fault computed_at
 range-quality doc stats absent = rw (absent, stats)
 
-abbrev front : Bool → List ℕ
-front false = version_key ∷ crafter_key ∷ level_key ∷ cp_key ∷ craftsmanship_key ∷ control_key ∷ recipe_key ∷ durability_key ∷ progress_key ∷ quality_key ∷ initial_quality_key ∷ progress_div_key ∷ quality_div_key ∷ progress_mod_key ∷ quality_mod_key ∷ penalty_key ∷ target_key ∷ base_key ∷ []
-front true = version_key ∷ crafter_key ∷ level_key ∷ cp_key ∷ craftsmanship_key ∷ control_key ∷ recipe_key ∷ durability_key ∷ progress_key ∷ quality_key ∷ initial_quality_key ∷ progress_div_key ∷ quality_div_key ∷ progress_mod_key ∷ quality_mod_key ∷ penalty_key ∷ target_key ∷ trained_eye_key ∷ base_key ∷ []
+-- the keys of a version before those of the base values, and after them
+abbrev front : (two : Bool) → List ℕ
+front two = filter (has_key two) (range_with_len 0 base_progress_key)
 
 abbrev back : List ℕ
-back = base_progress_key ∷ base_quality_key ∷ actions_key ∷ forbid_key ∷ backload_key ∷ []
+back = range_with_len (base_quality_key + 1) 3
 
-places-parts : (two : Bool) → places two ≡ front two ++ back
+places-parts : (two : Bool) → places two ≡ front two ++ base_progress_key ∷ base_quality_key ∷ back
+unfolding places
 places-parts true = refl
 places-parts false = refl
 
@@ -105,17 +121,32 @@ front-plain : (two : Bool) → list_all is_plain (front two) ≡ true
 front-plain true = refl
 front-plain false = refl
 
+back-none : (doc : Members) → first_some (outside_at doc) back ≡ None
+unfolding row_of rows
+back-none doc = rw (outside-other doc 21 refl, outside-other doc 22 refl, outside-other doc 23 refl)
+
 last_two : (a b c : Option SettingsFault) → option_or a (option_or b (option_or c None)) ≡ option_or (option_or a None) (option_or b c)
 last_two None b c = rw (or-none c)
 last_two (Some x) b c = refl
 
-in_stats : (two : Bool) (doc : Members) → is_stats doc ≡ true → first_some (range_at doc) (places two) ≡ option_or (first_some (outside_at doc) (places two)) (computed_fault doc)
+in_stats : (two : Bool) (doc : Members) → is_stats doc ≡ true
+    → first_some (range_at doc) (places two) ≡ option_or (first_some (outside_at doc) (places two)) (computed_fault doc)
 unfolding computed_fault
 in_stats two doc stats =
     let (no_progress, no_quality) = base-absent doc stats in
-    let (actions, forbid, backload) = back-none doc in
-    rw (places-parts two, first_some-append (range_at doc) (front two) back, first_some-append (outside_at doc) (front two) back, first_some-plain doc (front two) (front-plain two), range-progress doc stats no_progress, range-quality doc stats no_quality, range_at-plain doc actions_key refl, range_at-plain doc forbid_key refl, range_at-plain doc backload_key refl, outside-absent doc base_progress_key no_progress, outside-absent doc base_quality_key no_quality, actions, forbid, backload, stats)
-    (last_two (first_some (outside_at doc) (front two)) (base_fault base_progress_key (stats_progress doc)) (base_fault base_quality_key (stats_quality doc)))
+    rw (
+      places-parts two,
+      first_some-append (range_at doc) (front two),
+      first_some-append (outside_at doc) (front two),
+      first_some-plain doc (front two) (front-plain two),
+      first_some-plain doc back refl,
+      range-progress doc stats no_progress,
+      range-quality doc stats no_quality,
+      outside-absent doc base_progress_key no_progress,
+      outside-absent doc base_quality_key no_quality,
+      back-none doc,
+      stats,
+    ) (last_two (first_some (outside_at doc) (front two)) _ _)
 
 range_at-base : (doc : Members) (place : ℕ) → is_stats doc ≡ false → range_at doc place ≡ outside_at doc place
 unfolding range_at outside_at computed_at
@@ -142,6 +173,6 @@ or-steps None (Some x) r c rest = refl
 or-steps None None (Some x) c rest = refl
 or-steps None None None c rest = refl
 
-pub first_steps : (doc : Members) → first_fault doc ≡ step_fault doc
-unfolding first_fault step_fault value_fault given_fault
-first_steps doc = rw (ranges (is_two doc) doc, or-steps)
+pub first_steps : (two : Bool) (doc : Members) → fault_by two doc ≡ step_fault two doc
+unfolding fault_by step_fault value_fault given_fault
+first_steps two doc = rw (ranges two doc, or-steps)

@@ -10,7 +10,8 @@ use Rattle.craft_settings.specs.declared.fault.SettingsFault.{SettingsFault}
 use Rattle.craft_settings.specs.declared.fault.SettingsFault.TheVariants.{OutOfRange}
 use Rattle.craft_settings.specs.declared.keys.Kind.{Kind}
 use Rattle.craft_settings.specs.declared.keys.Kind.TheVariants.{Number, Fives}
-use Rattle.craft_settings.specs.Keys.{rule_of, row_of, rows, places, level_key, cp_key, craftsmanship_key, control_key, durability_key, progress_key, quality_key, initial_quality_key, progress_div_key, quality_div_key, progress_mod_key, quality_mod_key, target_key, base_progress_key, base_quality_key}
+use Rattle.craft_settings.specs.Ranges.{IsFromTo}
+use Rattle.craft_settings.specs.Keys.{row_of, rows, places, level_key, cp_key, craftsmanship_key, control_key, durability_key, progress_key, quality_key, initial_quality_key, progress_div_key, quality_div_key, progress_mod_key, quality_mod_key, target_key, base_progress_key, base_quality_key}
 use Rattle.craft_settings.specs.Fault.{first_some, when, fits, stray, integer_of}
 use Rattle.craft_settings.specs.Reading.{natural, number_from, number_at}
 use Rattle.craft_settings.specs.Steps.{outside_at, fault_at, base_fault, IsInRange}
@@ -70,25 +71,25 @@ fives_within (Some (negsuc n)) low high other none a b five =
 abbrev is_listed : ℕ → Bool
 is_listed place = list_any (λ q. q == place) (places false) && list_any (λ q. q == place) (places true)
 
-none_at : (two : Bool) (doc : Members) (place : ℕ) → is_listed place ≡ true → first_some (fault_at Range doc) (places two) ≡ None → stray (rule_of place).kind (integer_of doc (row_of place)) ≡ None
+none_at : (two : Bool) (doc : Members) (place : ℕ) → is_listed place ≡ true → first_some (fault_at Range doc) (places two) ≡ None → stray (row_of place).kind (integer_of doc (row_of place)) ≡ None
 unfolding outside_at
 none_at true doc place at none = map_none (OutOfRange place) _ (none-member (fault_at Range doc) (places true) place (and_parts _ _ at).1 none)
 none_at false doc place at none = map_none (OutOfRange place) _ (none-member (fault_at Range doc) (places false) place (and_parts _ _ at).0 none)
 
 within : (two : Bool) (doc : Members) (place low high other : ℕ) → is_listed place ≡ true → first_some (fault_at Range doc) (places two) ≡ None
-    → (rule_of place).kind ≡ Number low high → low ≤ other → other ≤ high → (low ≤ number_at doc place other) × (number_at doc place other ≤ high)
+    → (row_of place).kind ≡ Number low high → low ≤ other → other ≤ high → (low ≤ number_at doc place other) × (number_at doc place other ≤ high)
 unfolding number_from row_of
 within two doc place low high other at none kind a b =
     natural_within (integer_of doc (row_of place)) low high other (rw kind at (none_at two doc place at none)) a b
 
 fives : (two : Bool) (doc : Members) (place low high other : ℕ) → is_listed place ≡ true → first_some (fault_at Range doc) (places two) ≡ None
-    → (rule_of place).kind ≡ Fives low high → low ≤ other → other ≤ high → other % 5 ≡ 0 → (low ≤ number_at doc place other) × (number_at doc place other ≤ high) × (number_at doc place other % 5 ≡ 0)
+    → (row_of place).kind ≡ Fives low high → low ≤ other → other ≤ high → other % 5 ≡ 0 → (low ≤ number_at doc place other) × (number_at doc place other ≤ high) × (number_at doc place other % 5 ≡ 0)
 unfolding number_from row_of
 fives two doc place low high other at none kind a b five =
     fives_within (integer_of doc (row_of place)) low high other (rw kind at (none_at two doc place at none)) a b five
 
 pub IsInRange-from : (two : Bool) (doc : Members) → first_some (fault_at Range doc) (places two) ≡ None → IsInRange doc
-unfolding row_of rows
+unfolding row_of rows places
 IsInRange-from two doc none = let quality = within two doc quality_key 0 100000 0 refl none refl (omega arith) (omega arith) in record {
   level = within two doc level_key 1 100 1 refl none refl (omega arith) (omega arith);
   cp = (within two doc cp_key 0 1000 0 refl none refl (omega arith) (omega arith)).1;
@@ -108,17 +109,17 @@ IsInRange-from two doc none = let quality = within two doc quality_key 0 100000 
 }
 
 -- a computed base value that isn't out of range is in it
-base_within : (place n : ℕ) → (rule_of place).kind ≡ Number 1 5000 → base_fault place n ≡ None → (1 ≤ n) × (n ≤ 5000)
+base_within : (place n : ℕ) → (row_of place).kind ≡ Number 1 5000 → base_fault place n ≡ None → IsFromTo 1 5000 n
 unfolding base_fault
 base_within place n kind none =
     let fit : fits (Number 1 5000) (pos n) ≡ true = stray-fits (Number 1 5000) (pos n) (rw kind at (map_none (OutOfRange place) _ none)) in
     let (below, above) = and_parts (nat_le 1 n) (nat_le n 5000) fit in
-    grind (arith, nat_tests)
+    record { low = grind (arith, nat_tests); high = grind (arith, nat_tests) }
 
-pub progress_within : (n : ℕ) → base_fault base_progress_key n ≡ None → (1 ≤ n) × (n ≤ 5000)
+pub progress_within : (n : ℕ) → base_fault base_progress_key n ≡ None → IsFromTo 1 5000 n
 unfolding row_of rows
 progress_within n none = base_within base_progress_key n refl none
 
-pub quality_within : (n : ℕ) → base_fault base_quality_key n ≡ None → (1 ≤ n) × (n ≤ 5000)
+pub quality_within : (n : ℕ) → base_fault base_quality_key n ≡ None → IsFromTo 1 5000 n
 unfolding row_of rows
 quality_within n none = base_within base_quality_key n refl none

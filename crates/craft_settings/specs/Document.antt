@@ -24,7 +24,7 @@ is_shut doc s = option_map_or (λ d. is_none (as_table d)) (section_data doc s) 
 
 -- the value of a key
 unfoldable pub value_of : Members → Row → Option Data
-value_of doc row = option_and_then (get row.0) (section_data doc row.1.section)
+value_of doc row = option_and_then (get row.name) (section_data doc row.section)
 
 abbrev pub value_at : Members → ℕ → Option Data
 value_at doc place = value_of doc (row_of place)

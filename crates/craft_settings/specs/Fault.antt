@@ -55,11 +55,11 @@ fits _ z = true
 
 -- a key that the form needs is absent
 unfoldable pub is_missing : Members → Row → Bool
-is_missing doc row = is_needed row.1.need (is_stats doc) && (not (is_shut doc row.1.section) && is_none (value_of doc row))
+is_missing doc row = is_needed row.need (is_stats doc) && (not (is_shut doc row.section) && is_none (value_of doc row))
 
 -- a value isn't of its kind
 unfoldable pub is_misfit : Members → Row → Bool
-is_misfit doc row = option_map_or (λ d. not (has_kind row.1.kind d)) (value_of doc row) false
+is_misfit doc row = option_map_or (λ d. not (has_kind row.kind d)) (value_of doc row) false
 
 -- the number, where it isn't in the range
 unfoldable pub stray : Kind → Option ℤ → Option ℤ

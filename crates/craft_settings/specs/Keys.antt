@@ -1,20 +1,38 @@
 -- The keys of a settings file, in their order. A key is its place in the list of the second version, counted from 0.
-use Rattle.std.specs.Prelude.{ℕ, Bool, true, false, List, [], ◌∷◌, ◌++◌, codes, slice_index_or}
+use Rattle.std.specs.Prelude.{ℕ, Bool, not, ◌||◌, ◌==◌, List, [], ◌∷◌, ◌++◌, codes, slice_index_or}
+use Rattle.std.specs.List.{filter, range_with_len}
 use Rattle.craft_settings.specs.declared.keys.Section.{Section}
 use Rattle.craft_settings.specs.declared.keys.Section.TheVariants.{Top, Crafter, Recipe, Base, Actions}
 use Rattle.craft_settings.specs.declared.keys.Kind.{Kind}
 use Rattle.craft_settings.specs.declared.keys.Kind.TheVariants.{Table, Number, Fives, Flag, Names}
-use Rattle.craft_settings.specs.declared.keys.Rule.{Rule}
 use Rattle.craft_settings.specs.declared.keys.Need.{Need}
 use Rattle.craft_settings.specs.declared.keys.Need.TheVariants.{Never, Always, InStats, InBase}
+use Rattle.craft_settings.specs.declared.keys.TheConstants.{KEYS}
 
--- the name of a key in its table, with what the list says of it: its table, what its value is, and which form needs it
-abbrev pub Row : Type 0
-Row = List ℕ × Rule
+unfoldable pub section_name : Section → List ℕ
+section_name Top = []
+section_name Crafter = codes "crafter"
+section_name Recipe = codes "recipe"
+section_name Base = codes "base"
+section_name Actions = codes "actions"
+
+-- the path of a key: its table's name, a dot and its name
+abbrev pub path : Section → List ℕ → List ℕ
+path Top name = name
+path section name = section_name section ++ (codes "." ++ name)
+
+-- what the list says of a key: its table, its name there, its path, what its value is, and which form needs it
+pub record Row : Type 0 where
+  pub section : Section
+  pub name : List ℕ
+  pub text : List ℕ
+  pub kind : Kind
+  pub need : Need
 
 abbrev pub rule : Section → List ℕ → Kind → Need → Row
-rule s name kind need = (name, record { section = s; kind = kind; need = need })
+rule section name kind need = record { section = section; name = name; text = path section name; kind = kind; need = need }
 
+-- the list of the second version, which has every key
 unfoldable pub rows : List Row
 rows =
     rule Top (codes "version") (Number 1 2) Never
@@ -45,12 +63,6 @@ rows =
 
 -- the places of the keys
 
-abbrev pub version_key : ℕ
-version_key = 0
-
-abbrev pub crafter_key : ℕ
-crafter_key = 1
-
 abbrev pub level_key : ℕ
 level_key = 2
 
@@ -62,9 +74,6 @@ craftsmanship_key = 4
 
 abbrev pub control_key : ℕ
 control_key = 5
-
-abbrev pub recipe_key : ℕ
-recipe_key = 6
 
 abbrev pub durability_key : ℕ
 durability_key = 7
@@ -99,17 +108,11 @@ target_key = 16
 abbrev pub trained_eye_key : ℕ
 trained_eye_key = 17
 
-abbrev pub base_key : ℕ
-base_key = 18
-
 abbrev pub base_progress_key : ℕ
 base_progress_key = 19
 
 abbrev pub base_quality_key : ℕ
 base_quality_key = 20
-
-abbrev pub actions_key : ℕ
-actions_key = 21
 
 abbrev pub forbid_key : ℕ
 forbid_key = 22
@@ -117,14 +120,18 @@ forbid_key = 22
 abbrev pub backload_key : ℕ
 backload_key = 23
 
--- the keys that a version has, in their order: the first version hasn't `recipe.trained_eye`
-abbrev pub places : (two : Bool) → List ℕ
-places false = version_key ∷ crafter_key ∷ level_key ∷ cp_key ∷ craftsmanship_key ∷ control_key ∷ recipe_key ∷ durability_key ∷ progress_key ∷ quality_key ∷ initial_quality_key ∷ progress_div_key ∷ quality_div_key ∷ progress_mod_key ∷ quality_mod_key ∷ penalty_key ∷ target_key ∷ base_key ∷ base_progress_key ∷ base_quality_key ∷ actions_key ∷ forbid_key ∷ backload_key ∷ []
-places true = version_key ∷ crafter_key ∷ level_key ∷ cp_key ∷ craftsmanship_key ∷ control_key ∷ recipe_key ∷ durability_key ∷ progress_key ∷ quality_key ∷ initial_quality_key ∷ progress_div_key ∷ quality_div_key ∷ progress_mod_key ∷ quality_mod_key ∷ penalty_key ∷ target_key ∷ trained_eye_key ∷ base_key ∷ base_progress_key ∷ base_quality_key ∷ actions_key ∷ forbid_key ∷ backload_key ∷ []
+-- the first version has every key but `recipe.trained_eye`
+abbrev pub has_key : (two : Bool) → ℕ → Bool
+has_key two key = two || not (key == trained_eye_key)
+
+-- the keys of a version, in their order
+unfoldable pub places : (two : Bool) → List ℕ
+places two = filter (has_key two) (range_with_len 0 KEYS)
 
 -- the keys from which the stats form computes the base values
 abbrev pub stats_places : List ℕ
-stats_places = craftsmanship_key ∷ control_key ∷ progress_div_key ∷ quality_div_key ∷ progress_mod_key ∷ quality_mod_key ∷ penalty_key ∷ []
+stats_places =
+    craftsmanship_key ∷ control_key ∷ progress_div_key ∷ quality_div_key ∷ progress_mod_key ∷ quality_mod_key ∷ penalty_key ∷ []
 
 abbrev pub no_row : Row
 no_row = rule Top [] Table Never
@@ -133,26 +140,6 @@ no_row = rule Top [] Table Never
 unfoldable pub row_of : ℕ → Row
 row_of place = slice_index_or rows place no_row
 
-abbrev pub rule_of : ℕ → Rule
-rule_of place = (row_of place).1
-
-abbrev pub name_of : ℕ → List ℕ
-name_of place = (row_of place).0
-
-unfoldable pub section_name : Section → List ℕ
-section_name Top = []
-section_name Crafter = codes "crafter"
-section_name Recipe = codes "recipe"
-section_name Base = codes "base"
-section_name Actions = codes "actions"
-
--- the path of a key: its table's name, a dot and its name
-abbrev pub path : Section → List ℕ → List ℕ
-path Top name = name
-path section name = section_name section ++ (codes "." ++ name)
-
-abbrev pub path_of : Row → List ℕ
-path_of row = path row.1.section row.0
-
+-- the path of a key
 abbrev pub key_text : ℕ → List ℕ
-key_text place = path_of (row_of place)
+key_text place = (row_of place).text

@@ -10,7 +10,7 @@ use Rattle.action_table.specs.Table.{number_of, key_of, all_actions}
 use Rattle.craft_settings.specs.declared.fault.SettingsFault.{SettingsFault}
 use Rattle.craft_settings.specs.declared.fault.SettingsFault.TheVariants.{UnknownAction}
 use Rattle.craft_settings.specs.Keys.{Row, row_of, trained_eye_key, forbid_key}
-use Rattle.craft_settings.specs.Document.{value_of, is_two}
+use Rattle.craft_settings.specs.Document.{value_of}
 use Rattle.craft_settings.specs.Fault.{first_some, when}
 
 -- the flag at a key, false where it is absent
@@ -54,8 +54,8 @@ unfoldable pub name_fault : (two : Bool) → List ℕ → Option SettingsFault
 name_fault two name = when (is_none (action_of two name)) (UnknownAction name)
 
 -- the first name that is no key name
-abbrev pub action_fault : Members → Option SettingsFault
-action_fault doc = first_some (name_fault (is_two doc)) (names doc)
+abbrev pub action_fault : (two : Bool) → Members → Option SettingsFault
+action_fault two doc = first_some (name_fault two) (names doc)
 
 -- one of the names is that of the action with the number
 abbrev pub are_against : (two : Bool) → List (List ℕ) → ℕ → Bool
@@ -66,8 +66,8 @@ abbrev pub lacks_eye : (two : Bool) → Members → Bool
 lacks_eye two doc = not (two && flag_at doc trained_eye_key)
 
 -- the document forbids the action with the number
-abbrev pub is_ruled_out : Members → ℕ → Bool
-is_ruled_out doc n = ((n == number_of TrainedEye) && lacks_eye (is_two doc) doc) || are_against (is_two doc) (names doc) n
+abbrev pub is_ruled_out : (two : Bool) → Members → ℕ → Bool
+is_ruled_out two doc n = ((n == number_of TrainedEye) && lacks_eye two doc) || are_against two (names doc) n
 
 abbrev pub bit : Bool → ℕ
 bit b = if b then 1 else 0

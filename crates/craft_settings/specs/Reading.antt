@@ -6,7 +6,7 @@ use Rattle.toml.specs.Data.{Members}
 use Rattle.craft_numbers.specs.Gains.{base_value_of}
 use Rattle.craft_settings.specs.declared.fault.SettingsFault.{SettingsFault}
 use Rattle.craft_settings.specs.declared.fault.SettingsFault.TheVariants.{TooLong, NotToml, OutOfRange, TwoBases}
-use Rattle.craft_settings.specs.Keys.{Row, row_of, rule_of, places, stats_places, craftsmanship_key, control_key, progress_div_key, quality_div_key, progress_mod_key, quality_mod_key, penalty_key, base_progress_key, base_quality_key}
+use Rattle.craft_settings.specs.Keys.{Row, row_of, places, stats_places, craftsmanship_key, control_key, progress_div_key, quality_div_key, progress_mod_key, quality_mod_key, penalty_key, base_progress_key, base_quality_key}
 use Rattle.craft_settings.specs.Document.{document, value_at, is_stats, is_two}
 use Rattle.craft_settings.specs.Fault.{first_some, when, stray, integer_of, missing_at, misfit_at}
 use Rattle.craft_settings.specs.Names.{flag_at, action_fault}
@@ -45,7 +45,8 @@ base_quality doc = if is_stats doc then stats_quality doc else number_at doc bas
 -- in the stats form the computed base values stand at the keys of the base values
 unfoldable pub computed_at : Members → (is_progress is_quality : Bool) → Option ℤ
 computed_at doc is_progress is_quality =
-    if is_stats doc && is_progress then Some (pos (stats_progress doc)) else (if is_stats doc && is_quality then Some (pos (stats_quality doc)) else None)
+    if is_stats doc && is_progress then Some (pos (stats_progress doc))
+    else (if is_stats doc && is_quality then Some (pos (stats_quality doc)) else None)
 
 -- the number at a key, or the computed one that stands there
 abbrev pub number_here : Members → ℕ → Option ℤ
@@ -53,7 +54,7 @@ number_here doc place = option_or (integer_of doc (row_of place)) (computed_at d
 
 -- a number, of the file or computed, isn't in its range
 unfoldable pub range_at : Members → ℕ → Option SettingsFault
-range_at doc place = option_map (OutOfRange place) (stray (rule_of place).kind (number_here doc place))
+range_at doc place = option_map (OutOfRange place) (stray (row_of place).kind (number_here doc place))
 
 -- absent keys first, then values of the wrong kind, then numbers out of range
 unfoldable pub value_fault : (two : Bool) → Members → Option SettingsFault
@@ -69,21 +70,30 @@ has_two_bases doc = not (is_stats doc) && list_any (λ place. is_some (value_at 
 abbrev pub two_bases : Members → Option SettingsFault
 two_bases doc = when (has_two_bases doc) TwoBases
 
--- the first fault of a document, in the order of the faults
-unfoldable pub first_fault : Members → Option SettingsFault
-first_fault doc =
-    option_or (unknown_fault (is_two doc) doc)
-    (option_or (value_fault (is_two doc) doc)
-    (option_or (two_bases doc) (action_fault doc)))
+-- the first fault of a document by the list of a version, in the order of the faults
+unfoldable pub fault_by : (two : Bool) → Members → Option SettingsFault
+fault_by two doc =
+    option_or (unknown_fault two doc)
+    (option_or (value_fault two doc)
+    (option_or (two_bases doc) (action_fault two doc)))
+
+-- the first fault of a document
+abbrev pub first_fault : Members → Option SettingsFault
+first_fault doc = fault_by (is_two doc) doc
 
 -- the most bytes that a file may have
 abbrev pub max_length : ℕ
 max_length = 65536
 
-abbrev pub document_fault : Option Members → Option SettingsFault
-document_fault None = Some NotToml
-document_fault (Some doc) = first_fault doc
+-- the fault of a file, where `two` says which documents are of the second version
+
+abbrev pub document_fault_by : (two : Members → Bool) → Option Members → Option SettingsFault
+document_fault_by two None = Some NotToml
+document_fault_by two (Some doc) = fault_by (two doc) doc
+
+unfoldable pub file_fault_by : (two : Members → Bool) → List ℕ → Option SettingsFault
+file_fault_by two bytes = if nat_lt max_length (length bytes) then Some TooLong else document_fault_by two (document bytes)
 
 -- the fault of a file
-unfoldable pub file_fault : List ℕ → Option SettingsFault
-file_fault bytes = if nat_lt max_length (length bytes) then Some TooLong else document_fault (document bytes)
+abbrev pub file_fault : List ℕ → Option SettingsFault
+file_fault = file_fault_by is_two

@@ -22,7 +22,7 @@ section_number Actions = 4
 
 -- the row is that of the name in the table
 abbrev pub is_row : Section → List ℕ → Row → Bool
-is_row s name row = (section_number row.1.section == section_number s) && bytes_eq row.0 name
+is_row s name row = (section_number row.section == section_number s) && bytes_eq row.name name
 
 -- the list of the version has the key
 unfoldable pub is_known : (two : Bool) → Section → List ℕ → Bool

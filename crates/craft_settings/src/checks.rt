@@ -1,38 +1,21 @@
 // The checks of each key.
-ghost use Rattle.std.specs.Prelude.{◌≡◌, ◌<◌, All, option_map, Option, Some};
+ghost use Rattle.std.specs.Prelude.{◌≡◌, option_map, Option, Some};
 ghost use Rattle.toml.specs.View.{view, table_view, items_view};
-ghost use Rattle.craft_settings.specs.Keys.{row_of, rule_of, places};
+ghost use Rattle.craft_settings.specs.Keys.{row_of, places};
 ghost use Rattle.craft_settings.specs.Fault.{first_some, is_needed, has_kind, fits, stray, is_missing, is_misfit, missing_at, misfit_at, are_strings};
 ghost use Rattle.craft_settings.specs.Steps.{outside_at, base_fault, fault_at};
 
 use crate::document::{integer, is_shut, is_stats, value};
 use crate::fault::SettingsFault;
-use crate::keys::{Key, Kind, Need};
+use crate::keys::{KEYS, Key, Kind, Need};
 use toml::{Table, Value};
 
 /// What is looked for at a key.
 #[derive(Clone, Copy, Debug)]
-pub enum Check {
+pub(crate) enum Check {
     Presence,
     Sort,
     Range,
-}
-
-// The first version has all keys but `recipe.trained_eye`.
-const FIRST_PLACES: [u8; 23] = [
-    0, 1, 2, 3, 4, 5, 6, 7, 8, 9, 10, 11, 12, 13, 14, 15, 16, 18, 19, 20, 21, 22, 23,
-];
-
-const SECOND_PLACES: [u8; 24] = [
-    0, 1, 2, 3, 4, 5, 6, 7, 8, 9, 10, 11, 12, 13, 14, 15, 16, 17, 18, 19, 20, 21, 22, 23,
-];
-
-/// The places of the keys that a version has, in their order.
-pub(crate) fn places(two: bool) -> &'static [u8]
-    ensures places { result.now ≡ places two }
-    ensures within { All (λ p. p < 24) result.now }
-{
-    if two { &SECOND_PLACES } else { &FIRST_PLACES }
 }
 
 impl Need {
@@ -95,8 +78,8 @@ fn are_strings(items: &[Value]) -> bool
 fn is_missing(doc: &Table, key: Key) -> bool
     ensures { result ≡ is_missing (table_view doc.now) (row_of key) }
 {
-    let rule = key.rule();
-    rule.need.holds(is_stats(doc)) && !is_shut(doc, rule.section) && value(doc, key).is_none()
+    let row = key.row();
+    row.need.holds(is_stats(doc)) && !is_shut(doc, row.section) && value(doc, key).is_none()
 }
 
 /// Whether the value isn't of the kind of the key.
@@ -105,7 +88,7 @@ fn is_misfit(doc: &Table, key: Key) -> bool
     ensures { result ≡ is_misfit (table_view doc.now) (row_of key) }
 {
     match value(doc, key) {
-        Some(value) => !key.rule().kind.has(value),
+        Some(value) => !key.row().kind.has(value),
         None => false,
     }
 }
@@ -135,9 +118,9 @@ fn misfit_at(doc: &Table, key: Key) -> Option<SettingsFault>
 /// The fault of a number that isn't in the range of its key.
 #[tactic(auto, unfolding(crate::specs::Fault::stray))]
 fn range_fault(key: Key, value: i64) -> Option<SettingsFault>
-    ensures { result ≡ option_map (SettingsFault.OutOfRange key) (stray (rule_of key).kind (Some value)) }
+    ensures { result ≡ option_map (SettingsFault.OutOfRange key) (stray (row_of key).kind (Some value)) }
 {
-    if key.rule().kind.fits(value) {
+    if key.row().kind.fits(value) {
         None
     } else {
         Some(SettingsFault::OutOfRange { path: key, value })
@@ -173,14 +156,16 @@ fn fault_at(check: Check, doc: &Table, key: Key) -> Option<SettingsFault>
     }
 }
 
-/// The first fault that a check finds at the places.
-pub(crate) fn first_fault(check: Check, doc: &Table, places: &[u8]) -> Option<SettingsFault>
-    requires { All (λ p. p < 24) places.now }
-    ensures { result ≡ first_some (fault_at check (table_view doc.now)) places.now }
+/// The first fault that a check finds at the keys of a version.
+pub(crate) fn first_fault(check: Check, doc: &Table, two: bool) -> Option<SettingsFault>
+    ensures { result ≡ first_some (fault_at check (table_view doc.now)) (places two) }
 {
-    for place in places {
-        if let Some(fault) = fault_at(check, doc, Key::new(*place)) {
-            return Some(fault);
+    for place in 0..KEYS {
+        let key = Key::new(place);
+        if key.is_in(two) {
+            if let Some(fault) = fault_at(check, doc, key) {
+                return Some(fault);
+            }
         }
     }
     None

@@ -40,10 +40,11 @@ pub(crate) fn held<'a>(doc: &'a Table, name: &str) -> Option<&'a Value>
 pub(crate) fn value<'a>(doc: &'a Table, key: Key) -> Option<&'a Value>
     ensures { option_map (λ v. view v.now) result ≡ value_at (table_view doc.now) key }
 {
-    match key.rule().section {
-        Section::Top => held(doc, key.name()),
+    let row = key.row();
+    match row.section {
+        Section::Top => held(doc, row.name),
         section => match held(doc, section.name()) {
-            Some(table) => table.get(key.name()),
+            Some(table) => table.get(row.name),
             None => None,
         },
     }

@@ -5,7 +5,6 @@ ghost use Rattle.toml.specs.Data.{as_str};
 ghost use Rattle.toml.specs.View.{view, table_view, items_view};
 ghost use Rattle.action_table.specs.declared.action.Action.TheVariants.{TrainedEye};
 ghost use Rattle.action_table.specs.Table.{number_of};
-ghost use Rattle.craft_settings.specs.Document.{is_two};
 ghost use Rattle.craft_settings.specs.Fault.{OrMemory, first_some};
 ghost use Rattle.craft_settings.specs.Names.{strings_of, with_name, names, action_of, name_fault, action_fault, is_ruled_out, lacks_eye, bit};
 ghost use Rattle.craft_settings.specs.Steps.{Adds};
@@ -109,10 +108,9 @@ fn start_mask(doc: &Table, two: bool) -> u32
 
 /// The mask of the forbidden actions.
 pub(crate) fn forbidden(alloc: Global, doc: &Table, two: bool) -> Result<u32, SettingsFault>
-    requires { two ≡ is_two (table_view doc.now) }
-    ensures mask { IfOk result (λ mask. (n : ℕ) → bit_at mask n ≡ bit (is_ruled_out (table_view doc.now) n)) }
-    ensures ok { OnOk result (action_fault (table_view doc.now) ≡ None) }
-    ensures err { IfErr result (λ e. OrMemory e (action_fault (table_view doc.now) ≡ Some e)) }
+    ensures mask { IfOk result (λ mask. (n : ℕ) → bit_at mask n ≡ bit (is_ruled_out two (table_view doc.now) n)) }
+    ensures ok { OnOk result (action_fault two (table_view doc.now) ≡ None) }
+    ensures err { IfErr result (λ e. OrMemory e (action_fault two (table_view doc.now) ≡ Some e)) }
 {
     add_names(alloc, two, names(doc), start_mask(doc, two))
 }

@@ -1,12 +1,14 @@
 // The keys of a settings file.
-ghost use Rattle.std.specs.Prelude.{◌≡◌, ◌<◌, ℕ};
-ghost use Rattle.craft_settings.specs.Keys.{rule_of, name_of, key_text, section_name};
+ghost use Rattle.std.specs.Prelude.{◌≡◌, ◌<◌, ℕ, map};
+ghost use Rattle.craft_settings.specs.declared.keys.TheConstants.{KEYS};
+ghost use Rattle.craft_settings.specs.Inside.{row_seen};
+ghost use Rattle.craft_settings.specs.Keys.{rows, row_of, has_key, key_text, section_name};
 
 use std::marker::Model;
 
 /// The table that a key stands in.
 #[derive(Clone, Copy, Debug)]
-pub enum Section {
+pub(crate) enum Section {
     Top,
     Crafter,
     Recipe,
@@ -16,7 +18,7 @@ pub enum Section {
 
 /// What the value of a key is.
 #[derive(Clone, Copy, Debug)]
-pub enum Kind {
+pub(crate) enum Kind {
     Table,
     /// An integer in a range.
     Number { low: u32, high: u32 },
@@ -29,19 +31,91 @@ pub enum Kind {
 
 /// Which form of the settings needs a key.
 #[derive(Clone, Copy, Debug)]
-pub enum Need {
+pub(crate) enum Need {
     Never,
     Always,
     InStats,
     InBase,
 }
 
-/// What the list says of a key, beside its name.
+/// What the list says of a key.
 #[derive(Clone, Copy, Debug)]
-pub struct Rule {
-    pub section: Section,
-    pub kind: Kind,
-    pub need: Need,
+pub(crate) struct Row {
+    pub(crate) section: Section,
+    /// The name in the table.
+    pub(crate) name: &'static str,
+    /// The path: the name of the table, a dot, and the name in it.
+    pub(crate) text: &'static str,
+    pub(crate) kind: Kind,
+    pub(crate) need: Need,
+}
+
+macro_rules! path {
+    (Top, $name:literal) => {
+        $name
+    };
+    (Crafter, $name:literal) => {
+        concat!("crafter.", $name)
+    };
+    (Recipe, $name:literal) => {
+        concat!("recipe.", $name)
+    };
+    (Base, $name:literal) => {
+        concat!("base.", $name)
+    };
+    (Actions, $name:literal) => {
+        concat!("actions.", $name)
+    };
+}
+
+macro_rules! row {
+    ($section:ident $name:literal, $kind:expr, $need:ident) => {
+        Row {
+            section: Section::$section,
+            name: $name,
+            text: path!($section, $name),
+            kind: $kind,
+            need: Need::$need,
+        }
+    };
+}
+
+/// How many keys there are.
+pub(crate) const KEYS: usize = 24;
+
+// The list of the second version. The first version hasn't `recipe.trained_eye`.
+const ROWS: [Row; KEYS] = [
+    row!(Top "version", Kind::Number { low: 1, high: 2 }, Never),
+    row!(Top "crafter", Kind::Table, Never),
+    row!(Crafter "level", Kind::Number { low: 1, high: 100 }, Always),
+    row!(Crafter "cp", Kind::Number { low: 0, high: 1000 }, Always),
+    row!(Crafter "craftsmanship", Kind::Number { low: 0, high: 10000 }, InStats),
+    row!(Crafter "control", Kind::Number { low: 0, high: 10000 }, InStats),
+    row!(Top "recipe", Kind::Table, Never),
+    row!(Recipe "durability", Kind::Fives { low: 10, high: 100 }, Always),
+    row!(Recipe "progress", Kind::Number { low: 1, high: 100000 }, Always),
+    row!(Recipe "quality", Kind::Number { low: 0, high: 100000 }, Always),
+    row!(Recipe "initial_quality", Kind::Number { low: 0, high: 100000 }, Never),
+    row!(Recipe "progress_div", Kind::Number { low: 1, high: 1000 }, InStats),
+    row!(Recipe "quality_div", Kind::Number { low: 1, high: 1000 }, InStats),
+    row!(Recipe "progress_mod", Kind::Number { low: 1, high: 100 }, Never),
+    row!(Recipe "quality_mod", Kind::Number { low: 1, high: 100 }, Never),
+    row!(Recipe "penalty", Kind::Flag, Never),
+    row!(Recipe "target", Kind::Number { low: 0, high: 100000 }, Never),
+    row!(Recipe "trained_eye", Kind::Flag, Never),
+    row!(Top "base", Kind::Table, Never),
+    row!(Base "progress", Kind::Number { low: 1, high: 5000 }, InBase),
+    row!(Base "quality", Kind::Number { low: 1, high: 5000 }, InBase),
+    row!(Top "actions", Kind::Table, Never),
+    row!(Actions "forbid", Kind::Names, Never),
+    row!(Actions "backload", Kind::Flag, Never),
+];
+
+#[tactic(auto, unfolding(crate::specs::Keys::rows, crate::specs::Keys::section_name))]
+fn rows() -> &'static [Row; KEYS]
+    ensures { map row_seen result.now ≡ rows }
+{
+    &ROWS
 }
 
 /// A key of a settings file: its place, from 0 to 23, in the list of the second version, which has every key.
@@ -53,7 +127,7 @@ impl Model for Key {
 
     ghost view = { λ k. k.0 };
 
-    ghost invariant = { λ k. k.0 < 24 };
+    ghost invariant = { λ k. k.0 < KEYS };
 
     ghost inverse = { λ n. record { 0 = n } };
 }
@@ -73,23 +147,7 @@ impl Section {
     }
 }
 
-impl Rule {
-    fn of(section: Section, kind: Kind, need: Need) -> Rule
-        ensures { result ≡ record { section = section; kind = kind; need = need } }
-    {
-        Rule {
-            section,
-            kind,
-            need,
-        }
-    }
-}
-
 impl Key {
-    pub(crate) const VERSION: Key = Key(0);
-
-    pub(crate) const CRAFTER: Key = Key(1);
-
     pub(crate) const LEVEL: Key = Key(2);
 
     pub(crate) const CP: Key = Key(3);
@@ -97,8 +155,6 @@ impl Key {
     pub(crate) const CRAFTSMANSHIP: Key = Key(4);
 
     pub(crate) const CONTROL: Key = Key(5);
-
-    pub(crate) const RECIPE: Key = Key(6);
 
     pub(crate) const DURABILITY: Key = Key(7);
 
@@ -122,200 +178,40 @@ impl Key {
 
     pub(crate) const TRAINED_EYE: Key = Key(17);
 
-    pub(crate) const BASE: Key = Key(18);
-
     pub(crate) const BASE_PROGRESS: Key = Key(19);
 
     pub(crate) const BASE_QUALITY: Key = Key(20);
-
-    pub(crate) const ACTIONS: Key = Key(21);
 
     pub(crate) const FORBID: Key = Key(22);
 
     pub(crate) const BACKLOAD: Key = Key(23);
 
     /// The key at a place of the list.
-    pub(crate) fn new(place: u8) -> Key
-        requires { place < 24 }
+    pub(crate) fn new(place: usize) -> Key
+        requires { place < KEYS }
         ensures { result ≡ place }
     {
-        Key(place)
+        Key(place as u8)
     }
 
-    /// The path of the key: the name of its table, a dot, and its name.
-    #[tactic(auto, unfolding(crate::specs::Keys::section_name, crate::specs::Keys::row_of, crate::specs::Keys::rows))]
-    pub fn text(&self) -> &'static str
-        ensures { result.now ≡ key_text self.now }
+    /// Whether a version has the key.
+    pub(crate) fn is_in(self, two: bool) -> bool
+        ensures { result ≡ has_key two self }
     {
-        match self.0 {
-            0 => "version",
-            1 => "crafter",
-            2 => "crafter.level",
-            3 => "crafter.cp",
-            4 => "crafter.craftsmanship",
-            5 => "crafter.control",
-            6 => "recipe",
-            7 => "recipe.durability",
-            8 => "recipe.progress",
-            9 => "recipe.quality",
-            10 => "recipe.initial_quality",
-            11 => "recipe.progress_div",
-            12 => "recipe.quality_div",
-            13 => "recipe.progress_mod",
-            14 => "recipe.quality_mod",
-            15 => "recipe.penalty",
-            16 => "recipe.target",
-            17 => "recipe.trained_eye",
-            18 => "base",
-            19 => "base.progress",
-            20 => "base.quality",
-            21 => "actions",
-            22 => "actions.forbid",
-            _ => "actions.backload",
-        }
-    }
-
-    /// The name of the key in its table.
-    #[tactic(auto, unfolding(crate::specs::Keys::row_of, crate::specs::Keys::rows))]
-    pub(crate) fn name(self) -> &'static str
-        ensures { result.now ≡ name_of self }
-    {
-        match self.0 {
-            0 => "version",
-            1 => "crafter",
-            2 => "level",
-            3 => "cp",
-            4 => "craftsmanship",
-            5 => "control",
-            6 => "recipe",
-            7 => "durability",
-            8 => "progress",
-            9 => "quality",
-            10 => "initial_quality",
-            11 => "progress_div",
-            12 => "quality_div",
-            13 => "progress_mod",
-            14 => "quality_mod",
-            15 => "penalty",
-            16 => "target",
-            17 => "trained_eye",
-            18 => "base",
-            19 => "progress",
-            20 => "quality",
-            21 => "actions",
-            22 => "forbid",
-            _ => "backload",
-        }
+        two || self != Key::TRAINED_EYE
     }
 
     /// What the list says of the key.
-    #[tactic(auto, unfolding(crate::specs::Keys::row_of, crate::specs::Keys::rows))]
-    pub(crate) fn rule(self) -> Rule
-        ensures { result ≡ rule_of self }
+    pub(crate) fn row(self) -> &'static Row
+        ensures { row_seen result.now ≡ row_of self }
     {
-        match self.0 {
-            0 => Rule::of(Section::Top, Kind::Number { low: 1, high: 2 }, Need::Never),
-            1 => Rule::of(Section::Top, Kind::Table, Need::Never),
-            2 => Rule::of(
-                Section::Crafter,
-                Kind::Number { low: 1, high: 100 },
-                Need::Always,
-            ),
-            3 => Rule::of(
-                Section::Crafter,
-                Kind::Number { low: 0, high: 1000 },
-                Need::Always,
-            ),
-            4 => Rule::of(
-                Section::Crafter,
-                Kind::Number {
-                    low: 0,
-                    high: 10000,
-                },
-                Need::InStats,
-            ),
-            5 => Rule::of(
-                Section::Crafter,
-                Kind::Number {
-                    low: 0,
-                    high: 10000,
-                },
-                Need::InStats,
-            ),
-            6 => Rule::of(Section::Top, Kind::Table, Need::Never),
-            7 => Rule::of(
-                Section::Recipe,
-                Kind::Fives { low: 10, high: 100 },
-                Need::Always,
-            ),
-            8 => Rule::of(
-                Section::Recipe,
-                Kind::Number {
-                    low: 1,
-                    high: 100000,
-                },
-                Need::Always,
-            ),
-            9 => Rule::of(
-                Section::Recipe,
-                Kind::Number {
-                    low: 0,
-                    high: 100000,
-                },
-                Need::Always,
-            ),
-            10 => Rule::of(
-                Section::Recipe,
-                Kind::Number {
-                    low: 0,
-                    high: 100000,
-                },
-                Need::Never,
-            ),
-            11 => Rule::of(
-                Section::Recipe,
-                Kind::Number { low: 1, high: 1000 },
-                Need::InStats,
-            ),
-            12 => Rule::of(
-                Section::Recipe,
-                Kind::Number { low: 1, high: 1000 },
-                Need::InStats,
-            ),
-            13 => Rule::of(
-                Section::Recipe,
-                Kind::Number { low: 1, high: 100 },
-                Need::Never,
-            ),
-            14 => Rule::of(
-                Section::Recipe,
-                Kind::Number { low: 1, high: 100 },
-                Need::Never,
-            ),
-            15 => Rule::of(Section::Recipe, Kind::Flag, Need::Never),
-            16 => Rule::of(
-                Section::Recipe,
-                Kind::Number {
-                    low: 0,
-                    high: 100000,
-                },
-                Need::Never,
-            ),
-            17 => Rule::of(Section::Recipe, Kind::Flag, Need::Never),
-            18 => Rule::of(Section::Top, Kind::Table, Need::Never),
-            19 => Rule::of(
-                Section::Base,
-                Kind::Number { low: 1, high: 5000 },
-                Need::InBase,
-            ),
-            20 => Rule::of(
-                Section::Base,
-                Kind::Number { low: 1, high: 5000 },
-                Need::InBase,
-            ),
-            21 => Rule::of(Section::Top, Kind::Table, Need::Never),
-            22 => Rule::of(Section::Actions, Kind::Names, Need::Never),
-            _ => Rule::of(Section::Actions, Kind::Flag, Need::Never),
-        }
+        &rows()[usize::from(self.0)]
+    }
+
+    /// The path of the key: the name of its table, a dot, and its name.
+    pub fn text(&self) -> &'static str
+        ensures { result.now ≡ key_text self.now }
+    {
+        self.row().text
     }
 }

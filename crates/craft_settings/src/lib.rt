@@ -1,4 +1,4 @@
-// The settings of a craft, and the reader of a settings file.
+//! The settings of a craft, and the reader of a settings file.
 #![tactic(auto)]
 
 ghost use Rattle.std.specs.Prelude.{◌≡◌};

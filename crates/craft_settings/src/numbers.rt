@@ -4,6 +4,7 @@ ghost use Rattle.std.specs.List.{list_any};
 ghost use Rattle.toml.specs.View.{table_view};
 ghost use Rattle.craft_settings.specs.Keys.{stats_places};
 ghost use Rattle.craft_settings.specs.Document.{value_at};
+ghost use Rattle.craft_settings.specs.Ranges.{IsFromTo};
 ghost use Rattle.craft_settings.specs.Reading.{number_at, modifier, stats_progress, stats_quality, base_progress, base_quality, has_two_bases};
 ghost use Rattle.craft_settings.specs.Steps.{computed_fault, IsInRange};
 
@@ -59,20 +60,29 @@ fn stats_quality(doc: &Table) -> u32
     base_of(stat, div, 35, modifier(doc, Key::QUALITY_MOD))
 }
 
-/// The base values, for progress and for quality.
+/// The base values of a craft: what an action of 100 percent adds to progress and to quality.
+#[derive(Clone, Copy)]
+pub(crate) struct Bases {
+    pub(crate) progress: u32,
+    pub(crate) quality: u32,
+    ghost progress_in: { IsFromTo 1 5000 progress },
+    ghost quality_in: { IsFromTo 1 5000 quality },
+}
+
+/// The base values of a document, given or from the stats.
 #[tactic(auto, unfolding(crate::specs::Steps::computed_fault, crate::specs::Reading::base_progress, crate::specs::Reading::base_quality))]
-pub(crate) fn bases(doc: &Table) -> Result<(u32, u32), SettingsFault>
+pub(crate) fn base_values(doc: &Table) -> Result<Bases, SettingsFault>
     requires { IsInRange (table_view doc.now) }
-    ensures progress { IfOk result (λ b. b.0 ≡ base_progress (table_view doc.now)) }
-    ensures quality { IfOk result (λ b. b.1 ≡ base_quality (table_view doc.now)) }
-    ensures progress_in { IfOk result (λ b. (1 ≤ b.0) × (b.0 ≤ 5000)) }
-    ensures quality_in { IfOk result (λ b. (1 ≤ b.1) × (b.1 ≤ 5000)) }
+    ensures progress { IfOk result (λ b. b.progress ≡ base_progress (table_view doc.now)) }
+    ensures quality { IfOk result (λ b. b.quality ≡ base_quality (table_view doc.now)) }
     ensures ok { OnOk result (computed_fault (table_view doc.now) ≡ None) }
     ensures err { IfErr result (λ e. computed_fault (table_view doc.now) ≡ Some e) }
 {
     if !is_stats(doc) {
-        let progress = number_at(doc, Key::BASE_PROGRESS, 1);
-        return Ok((progress, number_at(doc, Key::BASE_QUALITY, 1)));
+        return Ok(Bases {
+            progress: number_at(doc, Key::BASE_PROGRESS, 1),
+            quality: number_at(doc, Key::BASE_QUALITY, 1),
+        });
     }
     let progress = stats_progress(doc);
     if let Some(fault) = base_fault(Key::BASE_PROGRESS, progress) {
@@ -82,7 +92,7 @@ pub(crate) fn bases(doc: &Table) -> Result<(u32, u32), SettingsFault>
     if let Some(fault) = base_fault(Key::BASE_QUALITY, quality) {
         return Err(fault);
     }
-    Ok((progress, quality))
+    Ok(Bases { progress, quality })
 }
 
 const STATS_KEYS: [Key; 7] = [

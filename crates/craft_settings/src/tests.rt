@@ -699,6 +699,6 @@ const PATHS: [&str; 24] = [
 #[test]
 fn paths_of_keys(rt: HostRuntime) {
     for place in 0..24 {
-        assert_eq!(rt; Key::new(place).text(), PATHS[usize::from(place)]);
+        assert_eq!(rt; Key::new(place).text(), PATHS[place]);
     }
 }

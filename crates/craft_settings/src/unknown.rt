@@ -7,10 +7,9 @@ ghost use Rattle.craft_settings.specs.Fault.{OrMemory};
 ghost use Rattle.craft_settings.specs.Keys.{row_of, places, path};
 ghost use Rattle.craft_settings.specs.Unknown.{section_number, is_row, is_known, least_unknown, unknown_in, unknown_path, unknown_fault};
 
-use crate::checks::places;
 use crate::document::held;
 use crate::fault::{KeyText, SettingsFault};
-use crate::keys::{Key, Section};
+use crate::keys::{KEYS, Key, Section};
 use action_table::WantMemory;
 use std::alloc::Global;
 use toml::Table;
@@ -34,7 +33,8 @@ impl Section {
 fn is_key(section: Section, name: &str, key: Key) -> bool
     ensures { result ≡ is_row section name.now (row_of key) }
 {
-    key.rule().section.number() == section.number() && key.name() == name
+    let row = key.row();
+    row.section.number() == section.number() && row.name == name
 }
 
 /// Whether the list of the version has the key.
@@ -42,8 +42,9 @@ fn is_key(section: Section, name: &str, key: Key) -> bool
 fn is_known(two: bool, section: Section, name: &str) -> bool
     ensures { result ≡ is_known two section name.now }
 {
-    for place in places(two) {
-        if is_key(section, name, Key::new(*place)) {
+    for place in 0..KEYS {
+        let key = Key::new(place);
+        if key.is_in(two) && is_key(section, name, key) {
             return true;
         }
     }

@@ -17,7 +17,12 @@ same_bool false b = not b
 
 -- the same as tests, for lists of states
 unfoldable pub same_effects : EffectFields → EffectFields → Bool
-same_effects a b = a.iq == b.iq && a.waste == b.waste && a.innovation == b.innovation && a.veneration == b.veneration && a.strides == b.strides && a.muscle == b.muscle && a.manipulation == b.manipulation && combo_number a.combo == combo_number b.combo && perfection_number a.perfection == perfection_number b.perfection && same_bool a.first b.first
+same_effects a b =
+    a.iq == b.iq && a.waste == b.waste && a.innovation == b.innovation && a.veneration == b.veneration && a.strides == b.strides &&
+    a.muscle == b.muscle && a.manipulation == b.manipulation && combo_number a.combo == combo_number b.combo &&
+    perfection_number a.perfection == perfection_number b.perfection && same_bool a.first b.first
 
 unfoldable pub is_not_less : StateFields → StateFields → Bool
-is_not_less a b = a.progress == b.progress && same_effects a.effects b.effects && nat_le b.cp a.cp && nat_le b.durability a.durability && nat_le b.quality a.quality
+is_not_less a b =
+    a.progress == b.progress && same_effects a.effects b.effects && nat_le b.cp a.cp && nat_le b.durability a.durability &&
+    nat_le b.quality a.quality

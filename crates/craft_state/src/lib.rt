@@ -1,4 +1,4 @@
-// The state of a craft.
+//! The state of a craft.
 #![tactic(auto)]
 
 ghost use Rattle.std.specs.Prelude.{◌≡◌};

@@ -1,5 +1,7 @@
 -- A state that isn't less goes on to states that aren't less.
 use Rattle.std.proofs.Common.{◌≡◌, ◌∙◌, ◌≤◌, ℕ, Bool, true, false, arith, refl, ap, if◌then◌else◌, ◌||◌, ◌==◌, ◌-◌, ◌+◌, ◌<◌, nat_lt, min}
+use Rattle.step_rules.proofs.Bounds.{still_live}
+use Rattle.plain_lemmas.proofs.Tests.{clash}
 use Rattle.action_table.specs.Table.{row_of}
 use Rattle.craft_numbers.specs.Gains.{progress_gain_of}
 use Rattle.step_rules.proofs.LegalFacts.{legal_facts, legal_by}
@@ -20,9 +22,6 @@ made cp durability progress quality effects = record {
   quality = quality;
   effects = effects;
 }
-
-still_live : (x : Bool) (d d' : ℕ) → (x || (d == 0)) ≡ false → d ≤ d' → (x || (d' == 0)) ≡ false
-still_live x d d' live more = grind arith
 
 -- the better of two legal states is legal
 is_legal-made : (g : SettingsFields) (p : ℕ) (e : EffectFields) (c c' d d' q q' : ℕ) (action : Action) →
@@ -92,9 +91,6 @@ IsNotLess-settled g before a b action not_less = record {
 pub also_live : (g : SettingsFields) (a b : StateFields) → IsNotLess a b → is_over g b ≡ false → is_over g a ≡ false
 also_live g a b better live = rw better.progress (still_live _ _ _ live better.durability)
 
-clash : (t : Bool) → t ≡ true → t ≡ false → ⊥
-clash t h k = cc
-
 -- the choice of the step, where the lesser state goes on
 IsNotLess-choice : (g : SettingsFields) (before : EffectFields) (action : Action) (a b : StateFields) →
     (is_over g b ≡ false → IsNotLess a b) →
@@ -102,7 +98,7 @@ IsNotLess-choice : (g : SettingsFields) (before : EffectFields) (action : Action
     IsNotLess (if is_over g a then a else settled_of g before action a) (if is_over g b then b else settled_of g before action b)
 IsNotLess-choice g before action a b not_less live =
     elim (is_over g b) as (λ t. is_over g b ≡ t → is_over g (if t then b else settled_of g before action b) ≡ false → IsNotLess (if is_over g a then a else settled_of g before action a) (if t then b else settled_of g before action b)) [
-      | true ↦ λ over still. absurd (clash _ over still)
+      | true ↦ λ over still. absurd (clash over still)
       | false ↦ λ going still.
           let better = not_less going in
           let goes : is_over g a ≡ false = also_live g a b better going in

@@ -1,5 +1,6 @@
 -- A state that isn't less completes where the other does, with no less quality.
 use Rattle.std.proofs.Common.{◌≡◌, ◌∙◌, sym, ◌≤◌, ℕ, Bool, true, false, arith, refl, ap, if◌then◌else◌, ◌||◌, ◌==◌, ◌+◌, ◌/◌, nat_lt, min, subst}
+use Rattle.plain_lemmas.proofs.Tests.{eq_from, eq_to, or_left}
 use Rattle.std.proofs.lemmas.Bool.Decides.{nat_tests}
 use Rattle.std.proofs.Math.Nat.{mul-le-mul_left, mul-le-mul_right}
 use Rattle.action_table.specs.Table.{row_of}
@@ -36,20 +37,11 @@ full_after : (g : SettingsFields) (p : ℕ) (e : EffectFields) (c c' d d' q q' :
 full_after g p e c c' d d' q q' action more full =
     capped (nat_lt 0 (row_of action g.level).progress) g.progress p _ _ (gain_le g.base_progress _ _ (nat_lt 0 e.veneration) (nat_lt 0 e.muscle) (efficiency_le g p e c c' d d' q q' action more)) full
 
-eq_from : (a b : ℕ) → (a == b) ≡ true → a ≡ b
-eq_from a b h = grind (arith, nat_tests)
-
-eq_to : (a b : ℕ) → a ≡ b → (a == b) ≡ true
-eq_to a b h = grind (arith, nat_tests)
-
 -- whether a step completes is seen after what the action does at once
 complete-acted : (g : SettingsFields) (s : StateFields) (action : Action) → is_complete g (step_of g s action) ≡ is_complete g (acted_of g s action)
 unfolding step_of settled_of
 complete-acted g s action =
     elim (is_over g (acted_of g s action)) as (λ b. is_complete g (if b then acted_of g s action else settled_of g s.effects action (acted_of g s action)) ≡ is_complete g (acted_of g s action)) [ true ↦ refl | false ↦ refl ]
-
-or_left : (a b : Bool) → a ≡ true → (a || b) ≡ true
-or_left a b h = rw h refl
 
 step-acted : (g : SettingsFields) (s : StateFields) (action : Action) → is_complete g (acted_of g s action) ≡ true → step_of g s action ≡ acted_of g s action
 unfolding step_of

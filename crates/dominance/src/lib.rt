@@ -1,4 +1,4 @@
-// What a state that is not less than another can do.
+//! What a state that is not less than another can do.
 #![tactic(auto)]
 
 ghost use Rattle.std.specs.Prelude.{◌≡◌, ◌≤◌, true, false};

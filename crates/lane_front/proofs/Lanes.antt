@@ -1,5 +1,6 @@
 -- Lanes of a load, as computed from their places.
 use Rattle.std.proofs.Common.{◌≡◌, ℕ, ◌+◌, ◌-◌, ◌<◌, ◌≤◌, ◌^◌, ◌%◌, ◌&&◌, Bool, true, false, not, cond, List, length, get_or, map, refl, sym, ap, ◌∙◌, leb, ltb, eqb, arith, max, replicate}
+use Rattle.plain_lemmas.proofs.Tests.{not_true, not_false}
 use Rattle.std.specs.List.{range_with_len, prefix_len}
 use lib.Lanes.{mask_l, zip2, top, chunk, sel_l}
 use lib.Bits.{bit_and}
@@ -50,14 +51,6 @@ covers_of cp dur quality c k h = grind (arith, nat_tests)
 not_covers : (cp dur quality c : List ℕ) (k : ℕ) → is_covering cp dur quality (get_or c 0 0) (get_or c 1 0) (get_or c 2 0) k ≡ false → Covers cp dur quality c k → ⊥
 not_covers cp dur quality c k h covers = grind (arith, nat_tests)
 
-is_false : (b : Bool) → not b ≡ true → b ≡ false
-is_false true e = sym e
-is_false false e = refl
-
-is_true : (b : Bool) → not b ≡ false → b ≡ true
-is_true true e = refl
-is_true false e = sym e
-
 pub run_of : (cp dur quality c : List ℕ) (i hits r : ℕ)
     → hits ≡ mask_l (map (is_covering cp dur quality (get_or c 0 0) (get_or c 1 0) (get_or c 2 0)) (range_with_len i 8))
     → r ≡ cond (eqb hits 0) 8 (count_trailing_zeros 64 hits) → Run cp dur quality c i r
@@ -73,11 +66,11 @@ run_of cp dur quality c i hits r is counted =
           let small : k - i < prefix_len (λ k. not (p k)) vs = omega (arith, len) in
           let below : k - i < 8 = omega (arith, prefix_len-le-length (λ k. not (p k)) vs) in
           let here : get_or vs (k - i) 0 ≡ k = at (k - i) below ∙ omega arith in
-          not_covers cp dur quality c k (is_false (p k) (ap (λ m. not (p m)) (sym here) ∙ prefix_len_passes (λ k. not (p k)) vs (k - i) 0 small));
+          not_covers cp dur quality c k (not_true (p k) (ap (λ m. not (p m)) (sym here) ∙ prefix_len_passes (λ k. not (p k)) vs (k - i) 0 small));
       found = λ lt.
           let small : prefix_len (λ k. not (p k)) vs < 8 = omega (arith, len) in
           let here : get_or vs (prefix_len (λ k. not (p k)) vs) 0 ≡ i + r = at (prefix_len (λ k. not (p k)) vs) small ∙ ap (λ m. i + m) (sym len) in
-          covers_of cp dur quality c (i + r) (is_true (p (i + r)) (ap (λ m. not (p m)) (sym here) ∙ prefix_len_stops (λ k. not (p k)) vs 0 small));
+          covers_of cp dur quality c (i + r) (not_false (p (i + r)) (ap (λ m. not (p m)) (sym here) ∙ prefix_len_stops (λ k. not (p k)) vs 0 small));
     }
 
 -- ---- max plus

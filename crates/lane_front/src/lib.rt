@@ -1,4 +1,4 @@
-// Kernels over columns of numbers, by vectors of eight lanes and a plain loop for the rest.
+//! Kernels over columns of numbers, by vectors of eight lanes and a plain loop for the rest.
 #![tactic(auto)]
 
 ghost use Rattle.std.specs.Prelude.{◌≡◌, ℕ, ◌+◌, ◌^◌, ◌<◌, ◌≤◌, length, slice_index, MatchOption, map};

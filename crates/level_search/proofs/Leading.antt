@@ -1,5 +1,7 @@
 -- What the nodes of the levels lead to.
 use Rattle.std.proofs.Common.{◌≡◌, ◌∙◌, sym, ℕ, zero, suc, ◌+◌, ◌-◌, ◌<◌, ◌≤◌, Bool, true, false, ◌||◌, ◌&&◌, ◌==◌, nat_lt, ◌⊎◌, inl, inr, List, [], ◌∷◌, ◌++◌, length, get_or, Some, None, arith, refl, ap, subst, map, if◌then◌else◌}
+use Rattle.plain_lemmas.proofs.Places.{Among-get_or}
+use Rattle.plain_lemmas.proofs.Tests.{bool_cases}
 use Rattle.std.specs.List.{filter_map, enumerate_from, All}
 use Rattle.std.proofs.Math.ListN.{get_or-map}
 use Rattle.std.proofs.lemmas.List.{get_or-map as get_or-mapped, length-map}
@@ -12,9 +14,9 @@ use Rattle.craft_settings.specs.Ranges.{SettingsFields, AreSettings}
 use Rattle.step_rules.specs.Legality.{IsWithin}
 use Rattle.macro_order.specs.Order.{precedes}
 use Rattle.prefix_fronts.specs.Prefix.{Prefix, empty_prefix, front, is_sooner, AreLimits}
-use Rattle.prefix_fronts.proofs.Lists.{Among, filter-Among, flat_map-Among, map-Among, Among-map, bool_cases}
-use Rattle.prefix_fronts.proofs.Dominance.{step_trans, precedes-transitive}
-use Rattle.prefix_fronts.proofs.Members.{prefix-facts, Among-get_or}
+use Rattle.plain_lemmas.proofs.Lists.{Among, filter-Among, flat_map-Among, map-Among, Among-map}
+use Rattle.macro_order.proofs.Transitive.{step_trans, precedes-transitive}
+use Rattle.prefix_fronts.proofs.Members.{prefix-facts}
 use Rattle.prefix_fronts.proofs.Sorted.{Ordered}
 use Rattle.prefix_fronts.proofs.Fronts.{front-among}
 use Rattle.pareto_front.specs.declared.node.Node.{Node}

@@ -1,5 +1,6 @@
 -- What the search for one length gives.
 use Rattle.std.proofs.Common.{◌≡◌, ◌∙◌, sym, ℕ, zero, suc, ◌+◌, ◌-◌, ◌<◌, ◌≤◌, Bool, true, ◌⊎◌, inl, inr, List, [], ◌∷◌, length, get_or, Some, None, arith, refl, ap, subst, map}
+use Rattle.plain_lemmas.proofs.Places.{Contains-Among, Among-Contains}
 use Rattle.std.specs.List.{range_with_len}
 use Rattle.action_table.specs.declared.action.Action.{Action}
 use Rattle.action_table.specs.Table.{all_actions}
@@ -12,8 +13,8 @@ use Rattle.step_rules.specs.Step.{step_of}
 use Rattle.step_rules.proofs.Runs.{run_of-snoc}
 use Rattle.macro_order.specs.Order.{precedes, score_of, IsBest}
 use Rattle.prefix_fronts.specs.Prefix.{Prefix, extend, front, finishes, finishers, completions, is_sooner, AreLimits, IsGreatest}
-use Rattle.prefix_fronts.proofs.Lists.{Among, Among-map, map-Among}
-use Rattle.prefix_fronts.proofs.Members.{prefix-facts, Among-Contains, Contains-from}
+use Rattle.plain_lemmas.proofs.Lists.{Among, Among-map, map-Among}
+use Rattle.prefix_fronts.proofs.Members.{prefix-facts}
 use Rattle.prefix_fronts.proofs.Sorted.{Ordered, is_before, Ordered-map, Ordered-filter, Ordered-flat_map, Ordered-all_actions, numbered_before, precedes-siblings, precedes-cousins}
 use Rattle.prefix_fronts.proofs.Fronts.{front-among}
 use Rattle.prefix_fronts.proofs.Inside.{answer-in}
@@ -88,7 +89,7 @@ search-found g grain target n k ends last actions counts settings low one same i
     let among : Among (f last) (finishers g target (front g passes n k)) = subst (λ l. Among (f last) l) e (Among-map f last ends s.among) in
     record {
       last = f last;
-      among = rw same (Contains-from _ (f last) among);
+      among = rw same (Among-Contains _ (f last) among);
       soonest = rw same (All-from_Among (λ (q : Prefix). (f last ≡ q) ⊎ (is_sooner (f last) q ≡ true)) _ (λ q m.
           let r = map-Among f q ends (subst (λ l. Among q l) (sym e) m) in
           subst (λ (z : Prefix). (f last ≡ z) ⊎ (is_sooner (f last) z ≡ true)) r.2 (s.each r.0 r.1)));
@@ -125,7 +126,7 @@ best-found g grain target n actions counts settings low greatest some before fou
 
 pub quality-found : (g : SettingsFields) (grain target n : ℕ) (actions : List Action) (counts : List ℕ) → AreSettings g → IsFound g grain target n actions counts → HasQuality g actions target
 quality-found g grain target n actions counts settings found =
-    let f = finishers-Among g target _ found.last (Among-Contains _ found.last found.among) in
+    let f = finishers-Among g target _ found.last (Contains-Among _ found.last found.among) in
     let here = front-among g (reaches g grain target) n (n - 1) f.from f.among in
     let is : (extend g f.from f.action).actions ≡ actions = ap (λ (p : Prefix). p.actions) f.is ∙ sym found.actions_is in
     let scored = score-extend g settings (n - 1) f.from f.action here f.legal f.full in
@@ -133,7 +134,7 @@ quality-found g grain target n actions counts settings found =
 
 pub completes-found : (g : SettingsFields) (grain target n : ℕ) (actions : List Action) (counts : List ℕ) → AreSettings g → IsFound g grain target n actions counts → Completes g (start_of g) actions
 completes-found g grain target n actions counts settings found =
-    let f = finishers-Among g target _ found.last (Among-Contains _ found.last found.among) in
+    let f = finishers-Among g target _ found.last (Contains-Among _ found.last found.among) in
     let here = front-among g (reaches g grain target) n (n - 1) f.from f.among in
     let is : (extend g f.from f.action).actions ≡ actions = ap (λ (p : Prefix). p.actions) f.is ∙ sym found.actions_is in
     record {

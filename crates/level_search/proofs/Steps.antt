@@ -6,12 +6,16 @@ use Rattle.std.proofs.lemmas.List.Elements.{filter_map-append}
 use Rattle.std.proofs.lemmas.List.Concat.{flat_map-append}
 use Rattle.std.proofs.lemmas.List.FromFn.{length-enumerate_from, get_or-enumerate_from}
 use Rattle.action_table.specs.declared.action.Action.{Action}
+use Rattle.action_table.specs.declared.action.Action.TheVariants.{BasicSynthesis}
 use Rattle.action_table.specs.Table.{number_of, all_actions}
 use Rattle.craft_state.specs.Craft.{StateFields}
 use Rattle.craft_settings.specs.Ranges.{SettingsFields}
-use Rattle.step_rules.proofs.ActionOrder.{take_to_action}
 use Rattle.pareto_front.specs.declared.node.Node.{Node}
 use Rattle.level_search.specs.Nodes.{children_by, nodes_by, nodes_upto}
+
+take_to_action : (action : Action) → take (number_of action + 1) all_actions ≡ take (number_of action) all_actions ++ action ∷ []
+take_to_action BasicSynthesis = refl
+take_to_action _ = refl
 
 -- what the actions up to and with this one give
 collected : {Y : Type 0} (h : Action → Option Y) (a : Action) (n : ℕ) (before : List Y) → number_of a ≡ n →

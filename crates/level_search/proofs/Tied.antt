@@ -1,20 +1,22 @@
 -- The nodes of a level stand for the prefixes of its front.
 use Rattle.std.proofs.Common.{◌≡◌, ◌∙◌, sym, ℕ, zero, suc, ◌+◌, ◌-◌, ◌<◌, ◌≤◌, Bool, true, false, cond, not, ◌&&◌, ◌||◌, ◌==◌, nat_lt, ◌⊎◌, inl, inr, List, [], ◌∷◌, ◌++◌, append_assoc, length, length-append, get_or, arith, refl, ap, subst, map}
+use Rattle.plain_lemmas.proofs.Tests.{bool_cases, clash, same_answer, and_by}
 use Rattle.std.specs.List.{filter, filter_map, flat_map, list_any, enumerate_from}
 use Rattle.std.proofs.lemmas.List.{map-append}
 use Rattle.std.proofs.lemmas.List.Elements.{filter-append}
 use Rattle.std.proofs.lemmas.Bool.Decides.{nat_tests}
 use Rattle.action_table.specs.declared.action.Action.{Action}
-use Rattle.action_table.specs.Table.{all_actions}
+use Rattle.action_table.specs.Table.{all_actions, action_seconds}
 use Rattle.craft_state.specs.Craft.{StateFields}
 use Rattle.craft_settings.specs.Ranges.{SettingsFields, AreSettings}
 use Rattle.step_rules.specs.Legality.{start_of}
 use Rattle.step_rules.specs.Step.{step_of}
 use Rattle.craft_state.specs.NotLess.{is_not_less}
-use Rattle.macro_order.specs.Order.{precedes, action_seconds}
+use Rattle.macro_order.specs.Order.{precedes}
 use Rattle.prefix_fronts.specs.Prefix.{Prefix, empty_prefix, extend, goes_on, children, prefixes, dominates, undominated, front, AreLimits}
-use Rattle.prefix_fronts.proofs.Lists.{Among, bool_cases, clash, filter-same, same_answer, Among-map}
-use Rattle.prefix_fronts.proofs.Dominance.{and_by, precedes-irreflexive, precedes-transitive}
+use Rattle.plain_lemmas.proofs.Lists.{Among, filter-same, Among-map}
+use Rattle.macro_order.proofs.Transitive.{precedes-transitive}
+use Rattle.prefix_fronts.proofs.Dominance.{precedes-irreflexive}
 use Rattle.prefix_fronts.proofs.Members.{prefix-facts}
 use Rattle.prefix_fronts.proofs.Sorted.{Ordered, is_before, Ordered-filter, Ordered-next, Ordered-prefixes}
 use Rattle.prefix_fronts.proofs.Fronts.{front-next, front-among}
@@ -49,7 +51,7 @@ unfolding child_by
 piece g t all i n p [] at state seconds = refl
 piece g t all i n p (a ∷ acts) at state seconds =
     let rest = piece g t all i n p acts at state seconds in
-    let here : tied g all (child_node g i n a) ≡ extend g p a = λ j. record { actions = (at j).actions ++ a ∷ []; state = step_of g (state j) a; seconds = seconds j + action_seconds g a } in
+    let here : tied g all (child_node g i n a) ≡ extend g p a = λ j. record { actions = (at j).actions ++ a ∷ []; state = step_of g (state j) a; seconds = seconds j + action_seconds a } in
     elim (bool_cases (t n.state a)) [
       | inl held ↦
           let held' : t p.state a ≡ true = ap (λ s. t s a) (sym state) ∙ held in

@@ -11,7 +11,7 @@ use Rattle.step_rules.specs.Run.{run_of}
 use Rattle.step_rules.specs.Step.{step_of}
 use Rattle.step_rules.proofs.Bounds.{IsWithin-start}
 use Rattle.step_rules.proofs.LegalFacts.{legal_facts}
-use Rattle.step_rules.proofs.Runs.{run_of-append, run_of-stopped, run_of-take, IsWithin-run}
+use Rattle.step_rules.proofs.Runs.{run_of-append, run_of-stopped, run_of-take, IsWithin-run, next_legal}
 use Rattle.relaxed_moves.specs.Optimum.{option_le, within_of}
 use Rattle.admissible.proofs.Reached.{first-macro, within-run}
 use Rattle.level_search.specs.declared.searcher.Searcher.{Searcher}
@@ -36,18 +36,6 @@ within-limits g grain settings low m k s whole from below ran =
     subst (λ (n : ℕ). option_le (Some (counted g whole.last)) (within_of g grain s n)) left
     (within-run g grain s whole.last (drop k m) low (IsWithin-run g (start_of g) s (take k m) (IsWithin-start g settings) ran)
     (first-macro g (start_of g) s (take k m) some ran) (live-run g s whole.last (drop k m) (omega (arith, left, below)) rest) rest whole.complete)
-
--- each action of a complete macro is legal in its turn
-pub next_legal : (g : SettingsFields) (state : StateFields) (actions : List Action) (place : ℕ) (d : Action) → place < length actions →
-    Completes g (start_of g) actions → run_of g (start_of g) (take place actions) ≡ Some state → is_legal g state (get_or actions place d) ≡ true
-next_legal g state actions place d inside completes ran =
-    elim (is_legal g state (get_or actions place d)) as (λ b. is_legal g state (get_or actions place d) ≡ b → b ≡ true) [
-      | true ↦ λ h. refl
-      | false ↦ λ h.
-          let stopped : run_of g (start_of g) actions ≡ None = run_of-stopped g (start_of g) state actions place (get_or actions place d) ran (slice_get-get_or actions place d inside) h in
-          let ended = completes.ran in
-          cc
-    ] refl
 
 -- the state after one action more
 pub next_ran : (g : SettingsFields) (state next : StateFields) (actions : List Action) (k : ℕ) (d : Action) → 1 ≤ k → k < length actions → Completes g (start_of g) actions →

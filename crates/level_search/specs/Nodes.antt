@@ -3,13 +3,12 @@ use Rattle.std.specs.Prelude.{ℕ, zero, suc, Bool, List, [], ◌∷◌, ◌++�
 use Rattle.std.specs.List.{flat_map, filter_map, enumerate_from, range_with_len}
 use Rattle.action_table.specs.declared.action.Action.{Action}
 use Rattle.action_table.specs.declared.action.Action.TheVariants.{BasicSynthesis}
-use Rattle.action_table.specs.Table.{all_actions}
+use Rattle.action_table.specs.Table.{all_actions, action_seconds}
 use Rattle.craft_state.specs.Craft.{StateFields}
 use Rattle.craft_settings.specs.Ranges.{SettingsFields}
 use Rattle.step_rules.specs.Legality.{start_of, IsWithin}
 use Rattle.step_rules.specs.Step.{step_of}
 use Rattle.relaxed_moves.specs.Budget.{potential_of, start_potential_of}
-use Rattle.macro_order.specs.Order.{action_seconds}
 use Rattle.prefix_fronts.specs.Prefix.{Prefix, Test, goes_on, completions, IsSoonest}
 use Rattle.pareto_front.specs.declared.node.Node.{Node}
 use Rattle.pareto_front.specs.Covers.{uncovered}
@@ -33,7 +32,7 @@ abbrev pub root_node : SettingsFields → Node
 root_node g = record { state = start_of g; seconds = 0; parent = 0; action = BasicSynthesis }
 
 abbrev pub child_node : SettingsFields → ℕ → Node → Action → Node
-child_node g place n a = record { state = step_of g n.state a; seconds = n.seconds + action_seconds g a; parent = place; action = a }
+child_node g place n a = record { state = step_of g n.state a; seconds = n.seconds + action_seconds a; parent = place; action = a }
 
 -- the child by an action that passes a test
 unfoldable pub child_by : SettingsFields → (StateFields → Action → Bool) → ℕ → Node → Action → Option Node

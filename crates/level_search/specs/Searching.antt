@@ -7,7 +7,8 @@ use Rattle.step_rules.specs.Legality.{start_of}
 use Rattle.step_rules.specs.Run.{run_of}
 use Rattle.relaxed_moves.specs.Budget.{potential_of}
 use Rattle.relaxed_moves.specs.Moves.{relax_of}
-use Rattle.relaxed_moves.specs.Places.{most_moves, index_of}
+use Rattle.relaxed_moves.specs.Places.{index_of}
+use Rattle.relaxed_moves.specs.declared.places.TheConstants.{MOST_MOVES}
 use Rattle.seat_tables.specs.Seats.{SharedFields, IsOf, StillSees}
 use Rattle.quality_bound.specs.declared.truth.QualityTruth.{QualityTruth}
 use Rattle.step_bound.specs.declared.truth.StepTruth.{StepTruth}
@@ -25,7 +26,7 @@ pub record StillSearches (before after : Searcher) : Type 0 where
 -- the searcher has seen both bounds of a state, with so many actions left
 pub record HasSeen (g : SettingsFields) (grain left : ℕ) (s : StateFields) (searcher : Searcher) : Type 0 where
   pub quality : Contains searcher.quality.view.seen (index_of grain (potential_of g s) (relax_of g grain s))
-  pub steps : left ≤ most_moves → Contains searcher.steps.view.seen (index_of grain left (relax_of g grain s))
+  pub steps : left ≤ MOST_MOVES → Contains searcher.steps.view.seen (index_of grain left (relax_of g grain s))
 
 -- it has seen those of the state after each action but the last
 abbrev pub HasSeenWay : SettingsFields → (grain : ℕ) → List Action → Searcher → Type 0

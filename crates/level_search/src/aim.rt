@@ -10,12 +10,9 @@ use crate::searcher::Searcher;
 use craft_settings::Settings;
 use craft_state::State;
 use quality_bound::{QualityTruth, limit_by};
-use relaxed_moves::{Scale, potential, relax};
+use relaxed_moves::{MOST_MOVES, Scale, potential, relax};
 use seat_tables::Shared;
 use step_bound::{StepTruth, within_by};
-
-// The greatest number of moves of the step table.
-const MOST_MOVES: u32 = 63;
 
 /// The quality that is looked for in a craft, the tables of the bounds that tell which states may still lead to it,
 /// and the craft's scale, which is made once.

@@ -5,7 +5,6 @@ ghost use Rattle.level_search.specs.Nodes.{IsNode, child_by, children_by, nodes_
 
 use crate::aim::Aim;
 use action_table::{Action, WantMemory};
-use macro_order::seconds_at;
 use pareto_front::Node;
 use std::alloc::Global;
 use step_rules::{check, step};
@@ -59,7 +58,7 @@ fn ending(aim: &Aim<'_>, place: usize, node: &Node, action: Action) -> Option<No
     }
     Some(Node {
         state,
-        seconds: node.seconds + seconds_at(g, action),
+        seconds: node.seconds + action.seconds(),
         parent: place,
         action,
     })

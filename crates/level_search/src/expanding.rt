@@ -9,7 +9,6 @@ ghost use Rattle.level_search.specs.declared.expanding.Worker.{Worker as WorkerF
 use crate::aim::Aim;
 use crate::searcher::Searcher;
 use action_table::{Action, WantMemory};
-use macro_order::seconds_at;
 use pareto_front::Node;
 use std::alloc::Global;
 use std::thread::Threads;
@@ -211,7 +210,7 @@ fn child(
     }
     Some(Node {
         state,
-        seconds: node.seconds + seconds_at(aim.g, action),
+        seconds: node.seconds + action.seconds(),
         parent: place,
         action,
     })

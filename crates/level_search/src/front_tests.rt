@@ -12,23 +12,9 @@ use std::alloc::AllocError;
 use std::test::Fail;
 use step_bound::within;
 use step_rules::{is_final, replay};
+use test_crafts::FOUR_STEPS;
 
-// A craft whose best macro has four actions.
-const FOUR_STEPS: Settings = Settings {
-    level: 26,
-    cp: 54,
-    durability: 20,
-    progress: 150,
-    quality: 500,
-    initial: 0,
-    base_progress: 100,
-    base_quality: 100,
-    forbidden: 33554432,
-    target: 500,
-    backload: false,
-};
-
-// The greatest quality of its macros.
+// The greatest quality of the macros of a craft whose best one has four actions.
 const TARGET: u32 = 150;
 
 // Ends a list of action numbers.
@@ -57,7 +43,7 @@ fn live_of(g: &Settings, actions: Vec<Action>) -> Option<Live> {
     if actions.len() > 1000 {
         return None;
     }
-    let seconds = seconds(g, &actions);
+    let seconds = seconds(&actions);
     Some(Live {
         actions,
         state,

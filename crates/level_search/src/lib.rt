@@ -34,11 +34,8 @@ use seat_tables::Shared;
 use std::alloc::Global;
 use std::thread::Threads;
 use step_bound::StepTruth;
-use step_rules::{start, step};
+use step_rules::{MOST_STEPS, start, step};
 use worker_gate::Gate;
-
-// No macro has more actions.
-const MOST_STEPS: u32 = 272;
 
 /// The best macro of a craft, with the number of survivors of each length below its own, and the searchers.
 ///

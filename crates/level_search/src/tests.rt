@@ -3,40 +3,12 @@ ghost use Rattle.level_search.specs.Searching.{IsSearcherOf};
 
 use super::*;
 use macro_order::score;
-use std::sync::atomic::{AtomicU64, Ordering};
 use std::test::Fail;
+use test_crafts::{EASY, FOUR_STEPS, ONE_TOUCH, ORDINARY, TWO_TOUCHES};
+use test_parts::Meeting;
 use worker_gate::FreeGate;
 
-// Base values of 100, no Trained Eye, and quality counts no more than the target.
-const CRAFT: Settings = Settings {
-    level: 1,
-    cp: 0,
-    durability: 10,
-    progress: 100,
-    quality: 100,
-    initial: 0,
-    base_progress: 100,
-    base_quality: 100,
-    forbidden: 33554432,
-    target: 0,
-    backload: false,
-};
-
-// A craft whose best macro has six actions.
-const SIX_STEPS: Settings = Settings {
-    level: 50,
-    cp: 180,
-    durability: 40,
-    progress: 150,
-    quality: 400,
-    initial: 0,
-    base_progress: 50,
-    base_quality: 101,
-    forbidden: 33554432,
-    target: 400,
-    backload: false,
-};
-
+// The best macro of the ordinary craft, and the counts of its levels.
 const SIX_ACTIONS: [Action; 6] = [
     Action::BasicSynthesis,
     Action::Veneration,
@@ -111,27 +83,20 @@ fn finds<G: Gate>(
 #[test]
 fn finds_the_best_with_its_counts(rt: HostRuntime) -> Result<(), Fail> {
     use Action::*;
-    let touch = Settings {
-        level: 5,
-        cp: 18,
-        durability: 20,
-        quality: 500,
-        ..CRAFT
-    };
-    let forbidden = CRAFT.forbidden + 2048 + 4096;
     let ground = Settings {
         level: 86,
-        cp: 18,
         progress: 180,
         quality: 0,
-        ..CRAFT
+        durability: 10,
+        ..ONE_TOUCH
     };
+    let forbidden = ground.forbidden + 2048 + 4096;
     let rows: [(Settings, &[Action], &[u64]); 10] = [
-        (CRAFT, &[BasicSynthesis], &[1]),
+        (Settings { target: 0, ..EASY }, &[BasicSynthesis], &[1]),
         (
             Settings {
                 target: 100,
-                ..touch
+                ..ONE_TOUCH
             },
             &[BasicTouch, BasicSynthesis],
             &[1, 1],
@@ -139,18 +104,16 @@ fn finds_the_best_with_its_counts(rt: HostRuntime) -> Result<(), Fail> {
         (
             Settings {
                 durability: 10,
-                ..touch
+                target: 0,
+                ..ONE_TOUCH
             },
             &[BasicSynthesis],
             &[1],
         ),
         (
             Settings {
-                level: 11,
-                cp: 36,
-                durability: 30,
                 target: 210,
-                ..touch
+                ..TWO_TOUCHES
             },
             &[BasicTouch, BasicTouch, BasicSynthesis],
             &[1, 1, 1],
@@ -160,7 +123,7 @@ fn finds_the_best_with_its_counts(rt: HostRuntime) -> Result<(), Fail> {
                 level: 7,
                 cp: 106,
                 target: 100,
-                ..touch
+                ..ONE_TOUCH
             },
             &[BasicTouch, BasicSynthesis],
             &[1, 1],
@@ -168,22 +131,17 @@ fn finds_the_best_with_its_counts(rt: HostRuntime) -> Result<(), Fail> {
         (
             Settings {
                 level: 15,
-                cp: 18,
-                durability: 20,
                 progress: 150,
                 quality: 0,
-                ..CRAFT
+                ..ONE_TOUCH
             },
             &[Veneration, BasicSynthesis],
             &[1, 2],
         ),
         (
             Settings {
-                level: 26,
-                cp: 54,
-                progress: 150,
                 target: 150,
-                ..touch
+                ..FOUR_STEPS
             },
             &[Veneration, Innovation, BasicTouch, BasicSynthesis],
             &[1, 4, 9, 3],
@@ -191,10 +149,8 @@ fn finds_the_best_with_its_counts(rt: HostRuntime) -> Result<(), Fail> {
         (
             Settings {
                 level: 100,
-                cp: 18,
                 progress: 360,
-                quality: 0,
-                ..CRAFT
+                ..ground
             },
             &[TrainedPerfection, Groundwork],
             &[1, 5],
@@ -222,7 +178,7 @@ fn finds_the_same_with_more_workers(rt: HostRuntime) -> Result<(), Fail> {
             &rt,
             rt.alloc(),
             &FreeGate,
-            &SIX_STEPS,
+            &ORDINARY,
             workers,
             &SIX_ACTIONS,
             &SIX_COUNTS,
@@ -232,54 +188,19 @@ fn finds_the_same_with_more_workers(rt: HostRuntime) -> Result<(), Fail> {
     Ok(())
 }
 
-// Each of two workers shows its flag at the gate, and waits there for the other's.
-#[derive(Drop)]
-struct Meeting {
-    first: AtomicU64,
-    second: AtomicU64,
-    met: AtomicU64,
-}
-
-impl Meeting {
-    fn flag(&self, worker: u32) -> &AtomicU64 {
-        if worker == 0 {
-            &self.first
-        } else {
-            &self.second
-        }
-    }
-}
-
-impl Gate for Meeting {
-    fn pass(&self, worker: u32) {
-        self.flag(worker).store(1, Ordering::SeqCst);
-        let other = self.flag(1 - worker.min(1));
-        for _ in 0..100_000_000u32 {
-            if other.load(Ordering::SeqCst) == 1 {
-                return;
-            }
-        }
-        self.met.store(0, Ordering::SeqCst);
-    }
-}
-
 #[test]
 fn runs_two_workers_side_by_side(rt: HostRuntime) -> Result<(), Fail> {
-    let gate = Meeting {
-        first: AtomicU64::new(0),
-        second: AtomicU64::new(0),
-        met: AtomicU64::new(1),
-    };
+    let gate = Meeting::new();
     let same = finds(
         &rt,
         rt.alloc(),
         &gate,
-        &SIX_STEPS,
+        &ORDINARY,
         2,
         &SIX_ACTIONS,
         &SIX_COUNTS,
     );
     assert!(rt; same.ok() == Some(true));
-    assert_eq!(rt; gate.met.load(Ordering::SeqCst), 1);
+    assert!(rt; gate.have_met());
     Ok(())
 }

@@ -1,7 +1,7 @@
 -- Which of two complete macros is better.
 use Rattle.std.specs.Prelude.{ℕ, Bool, true, false, List, [], ◌∷◌, Option, Some, None, ◌≡◌, ◌⊎◌, ◌+◌, ◌&&◌, ◌||◌, ◌==◌, nat_lt, length, if◌then◌else◌}
 use Rattle.action_table.specs.declared.action.Action.{Action}
-use Rattle.action_table.specs.Table.{row_of, number_of}
+use Rattle.action_table.specs.Table.{number_of, action_seconds}
 use Rattle.craft_state.specs.Craft.{StateFields}
 use Rattle.craft_settings.specs.Ranges.{SettingsFields}
 use Rattle.step_rules.specs.Legality.{start_of, is_complete}
@@ -9,20 +9,16 @@ use Rattle.step_rules.specs.Macro.{counted}
 use Rattle.step_rules.specs.Run.{run_of}
 use Rattle.macro_order.specs.declared.scores.Score.{Score}
 
--- how long an action takes
-unfoldable pub action_seconds : SettingsFields → Action → ℕ
-action_seconds g a = (row_of a g.level).seconds
-
 -- how long a list takes
-abbrev pub seconds_of : SettingsFields → List Action → ℕ
-seconds_of g [] = 0
-seconds_of g (a ∷ m) = action_seconds g a + seconds_of g m
+abbrev pub seconds_of : List Action → ℕ
+seconds_of [] = 0
+seconds_of (a ∷ m) = action_seconds a + seconds_of m
 
 -- the score of a list that ends in a state
 abbrev pub scored : SettingsFields → List Action → Option StateFields → Option Score
 scored g m None = None
 scored g m (Some s) =
-    if is_complete g s then Some (record { quality = counted g s; steps = length m; seconds = seconds_of g m }) else None
+    if is_complete g s then Some (record { quality = counted g s; steps = length m; seconds = seconds_of m }) else None
 
 -- the score of a list that completes the craft from a state, and none of any other list
 abbrev pub score_from : SettingsFields → StateFields → List Action → Option Score
@@ -41,7 +37,8 @@ precedes (a ∷ m) (b ∷ n) = nat_lt (number_of a) (number_of b) || (number_of 
 -- more quality, or then fewer steps, or then fewer seconds, or then the earlier list
 abbrev pub is_better : Score → List Action → Score → List Action → Bool
 is_better a m b n =
-    nat_lt b.quality a.quality || (a.quality == b.quality && (nat_lt a.steps b.steps || (a.steps == b.steps && (nat_lt a.seconds b.seconds || (a.seconds == b.seconds && precedes m n)))))
+    nat_lt b.quality a.quality || (a.quality == b.quality && (nat_lt a.steps b.steps
+    || (a.steps == b.steps && (nat_lt a.seconds b.seconds || (a.seconds == b.seconds && precedes m n)))))
 
 -- a list that completes the craft from a state and is better than each other
 pub record IsBestFrom (g : SettingsFields) (from : StateFields) (m : List Action) : Type 0 where

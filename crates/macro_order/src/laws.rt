@@ -7,7 +7,8 @@ ghost use Rattle.macro_order.specs.Order.{score_of, is_better, IsBest};
 
 /// Of two different complete legal macros exactly one is better.
 pub fn one_is_better()
-    ensures either { (g : SettingsFields) (m n : List Action) (a b : Score) → score_of g m ≡ Some a → score_of g n ≡ Some b → (m ≡ n) ⊎ (IsTrue (is_better a m b n) ⊎ IsTrue (is_better b n a m)) }
+    ensures either { (g : SettingsFields) (m n : List Action) (a b : Score) → score_of g m ≡ Some a → score_of g n ≡ Some b →
+        (m ≡ n) ⊎ (IsTrue (is_better a m b n) ⊎ IsTrue (is_better b n a m)) }
     ensures not_both { (m n : List Action) (a b : Score) → IsTrue (is_better a m b n) → IsTrue (is_better b n a m) → ⊥ }
 {}
 

@@ -1,13 +1,14 @@
-// Which of two complete macros is better.
+//! Which of two complete macros is better.
 #![tactic(auto)]
 
 ghost use Rattle.std.specs.Prelude.{◌≡◌, ◌+◌, ◌*◌, ◌≤◌, length};
+ghost use Rattle.action_table.specs.Table.{action_seconds};
 ghost use Rattle.craft_settings.specs.Ranges.{AreSettings};
-ghost use Rattle.macro_order.specs.Order.{score_of, seconds_of, action_seconds, is_better, precedes};
+ghost use Rattle.macro_order.specs.Order.{score_of, seconds_of, is_better, precedes};
 
-use action_table::{Action, row};
+use action_table::Action;
 use craft_settings::Settings;
-use step_rules::{replay, start};
+use step_rules::{counted, is_complete, replay, start};
 
 pub mod laws;
 mod scores;
@@ -19,11 +20,11 @@ pub fn score(g: &Settings, actions: &[Action]) -> Option<Score>
     ensures { result ≡ score_of g.now actions.now }
 {
     match replay(g, &start(g), actions) {
-        Ok(last) if last.progress == g.progress => {
+        Ok(last) if is_complete(g, &last) => {
             Some(Score {
-                quality: last.quality.min(g.cap()),
+                quality: counted(g, &last),
                 steps: actions.len() as u32,
-                seconds: seconds(g, actions),
+                seconds: seconds(actions),
             })
         }
         _ => None,
@@ -31,25 +32,16 @@ pub fn score(g: &Settings, actions: &[Action]) -> Option<Score>
 }
 
 /// How many seconds a list of actions takes.
-pub fn seconds(g: &Settings, actions: &[Action]) -> u32
+pub fn seconds(actions: &[Action]) -> u32
     requires { length actions.now ≤ 1000 }
-    ensures value { result ≡ seconds_of g.now actions.now }
+    ensures value { result ≡ seconds_of actions.now }
     ensures small { result ≤ 3 * length actions.now }
 {
     let mut total = 0;
     for &action in actions {
-        total += seconds_at(g, action);
+        total += action.seconds();
     }
     total
-}
-
-/// How many seconds an action takes.
-#[tactic(auto, unfolding(crate::specs::Order::action_seconds), using(crate::proofs::Lengths::row_seconds))]
-pub fn seconds_at(g: &Settings, action: Action) -> u32
-    ensures value { result ≡ action_seconds g.now action }
-    ensures small { result ≤ 3 }
-{
-    row(action, g.level).seconds
 }
 
 /// Whether the first of two macros with their scores is better: it has more quality, or as much in fewer steps, or
@@ -70,8 +62,8 @@ pub fn better(a: &Score, first: &[Action], b: &Score, second: &[Action]) -> bool
     }
 }
 
-// Whether the first of two lists of one length has the smaller number where they first differ.
-fn is_before(first: &[Action], second: &[Action]) -> bool
+/// Whether the first of two lists of one length has the smaller action number where they first differ.
+pub fn is_before(first: &[Action], second: &[Action]) -> bool
     requires { length first.now ≡ length second.now }
     ensures { result ≡ precedes first.now second.now }
 {

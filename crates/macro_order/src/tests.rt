@@ -1,19 +1,6 @@
 use super::*;
 use action_table::Action::*;
-
-const CRAFT: Settings = Settings {
-    level: 11,
-    cp: 36,
-    durability: 30,
-    progress: 100,
-    quality: 500,
-    initial: 0,
-    base_progress: 100,
-    base_quality: 100,
-    forbidden: 0,
-    target: 500,
-    backload: false,
-};
+use test_crafts::{FOUR_STEPS, TWO_TOUCHES};
 
 // Quality, steps and seconds of a list that completes the craft.
 fn numbers(g: &Settings, actions: &[Action]) -> Option<(u32, u32, u32)> {
@@ -34,7 +21,7 @@ fn quality_counts_up_to_the_target(rt: HostRuntime) {
         [BasicTouch, BasicSynthesis],
         [BasicTouch, BasicTouch, BasicSynthesis],
     );
-    let mut g = CRAFT;
+    let mut g = TWO_TOUCHES;
     assert_eq!(rt; numbers(&g, &short), Some((100, 2, 6)));
     assert_eq!(rt; numbers(&g, &long), Some((210, 3, 9)));
     assert!(rt; beats(&g, &long, &short));
@@ -47,11 +34,7 @@ fn quality_counts_up_to_the_target(rt: HostRuntime) {
 
 #[test]
 fn seconds_and_then_the_action_order_decide(rt: HostRuntime) {
-    let mut g = CRAFT;
-    g.level = 26;
-    g.cp = 54;
-    g.durability = 20;
-    g.progress = 150;
+    let g = FOUR_STEPS;
     let first = [Veneration, Innovation, BasicTouch, BasicSynthesis];
     assert_eq!(rt; numbers(&g, &first), Some((150, 4, 10)));
     assert!(rt;
@@ -80,7 +63,7 @@ fn seconds_and_then_the_action_order_decide(rt: HostRuntime) {
 
 #[test]
 fn only_complete_legal_lists_have_a_score(rt: HostRuntime) {
-    let g = CRAFT;
+    let g = TWO_TOUCHES;
     assert_eq!(rt; numbers(&g, &[]), None);
     assert_eq!(rt; numbers(&g, &[BasicTouch, BasicTouch, BasicTouch]), None);
     assert_eq!(rt; numbers(&g, &[BasicSynthesis, BasicTouch]), None);
@@ -92,7 +75,7 @@ fn seconds_in(actions: &[Action]) -> Option<u32> {
     if actions.len() > 1000 {
         return None;
     }
-    Some(seconds(&CRAFT, actions))
+    Some(seconds(actions))
 }
 
 // The six actions that take two seconds, and the others, which take three.

@@ -11,7 +11,7 @@ use Rattle.action_table.specs.declared.action.Action.TheVariants.{BasicSynthesis
 use Rattle.action_table.specs.Table.{display_name_of}
 use Rattle.macro_text.proofs.Cuts.{below-more}
 use Rattle.macro_text.specs.Blocks.{action_line, block_count, block_length, block_text, blocks_below, blocks_of, macro_line}
-use Rattle.macro_text.specs.Seconds.{seconds_of_action}
+use Rattle.action_table.specs.Table.{action_seconds}
 use Rattle.macro_read.proofs.Written.{few_seconds}
 
 short_name : (action : Action) → ltb (length (display_name_of action)) 20 ≡ true
@@ -20,7 +20,7 @@ short_name _ = refl
 
 size-line : (action : Action) → length (action_line action) ≤ 40
 size-line action =
-    let seconds : ℕ = seconds_of_action action in
+    let seconds : ℕ = action_seconds action in
     let few : seconds < 10 = ltb-true seconds 10 (few_seconds action) in
     let name : length (display_name_of action) < 20 = ltb-true (length (display_name_of action)) 20 (short_name action) in
     let digits : length (decimal seconds) ≤ 1 = length-decimal-le 1 seconds (omega arith) (omega arith) (omega arith) in

@@ -18,7 +18,7 @@ use Rattle.action_table.specs.declared.action.Action.TheVariants.{BasicSynthesis
 use Rattle.action_table.specs.Table.{display_name_of}
 use Rattle.macro_text.proofs.Cuts.{below-more}
 use Rattle.macro_text.specs.Blocks.{action_line, block_count, block_length, block_text, blocks_below, blocks_of, macro_line}
-use Rattle.macro_text.specs.Seconds.{seconds_of_action}
+use Rattle.action_table.specs.Table.{action_seconds}
 use Rattle.macro_read.specs.declared.lines.Line.{Line}
 use Rattle.macro_read.specs.declared.lines.Line.TheVariants.{Empty, Heading, Names}
 use Rattle.macro_read.specs.Lines.{Text, line_end, lines_of, IsNumber, IsActionLine, IsOfKind}
@@ -91,7 +91,8 @@ inside-name : (action : Action) → list_all (λ byte. ltb 13 byte) (display_nam
 inside-name BasicSynthesis = refl
 inside-name _ = refl
 
-pub few_seconds : (action : Action) → ltb (seconds_of_action action) 10 ≡ true
+pub few_seconds : (action : Action) → ltb (action_seconds action) 10 ≡ true
+unfolding action_seconds
 few_seconds BasicSynthesis = refl
 few_seconds _ = refl
 
@@ -103,7 +104,7 @@ writes-heading number few =
 
 -- what stands after the name
 abbrev wait_of : Action → Text
-wait_of action = codes " <wait." ++ (decimal (seconds_of_action action) ++ codes ">")
+wait_of action = codes " <wait." ++ (decimal (action_seconds action) ++ codes ">")
 
 -- the line without its LF
 abbrev line_for : Action → Text
@@ -111,13 +112,13 @@ line_for action = codes "/ac" ++ (codes " \"" ++ (display_name_of action ++ (cod
 
 line_for-end : (action : Action) → action_line action ≡ line_for action ++ (line_end ∷ [])
 line_for-end action =
-    let seconds : Text = decimal (seconds_of_action action) in
+    let seconds : Text = decimal (action_seconds action) in
     let name : Text = display_name_of action in
     ap (λ (t : Text). codes "/ac \"" ++ t) (ap (λ (t : Text). name ++ (codes "\" <wait." ++ t)) (sym (append_assoc seconds (codes ">") (line_end ∷ []))) ∙ sym (append_assoc name (codes "\"" ++ wait_of action) (line_end ∷ [])))
 
 inside-wait : (action : Action) → All IsInside (wait_of action)
 inside-wait action =
-    let seconds : ℕ = seconds_of_action action in
+    let seconds : ℕ = action_seconds action in
     let few : seconds < 10 = ltb-true seconds 10 (few_seconds action) in
     All-append IsInside (codes " <wait.") (decimal seconds ++ codes ">") (inside (codes " <wait.") refl)
     (All-append IsInside (decimal seconds) (codes ">") (inside-decimal seconds (omega arith)) (inside (codes ">") refl))
@@ -131,7 +132,7 @@ inside-line action =
 
 is_action_line : (action : Action) → IsActionLine action (line_for action)
 is_action_line action =
-    let seconds : ℕ = seconds_of_action action in
+    let seconds : ℕ = action_seconds action in
     let few : seconds < 10 = ltb-true seconds 10 (few_seconds action) in
     record {
       command = codes "/ac";

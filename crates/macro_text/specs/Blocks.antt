@@ -5,9 +5,8 @@ use Rattle.std.specs.Fork.{slice_chunk}
 use Rattle.std.specs.Int.{div_ceil}
 use Rattle.std.specs.List.{flat_map, range_with_len}
 use Rattle.std.specs.Fmt.{decimal}
-use Rattle.action_table.specs.Table.{display_name_of}
+use Rattle.action_table.specs.Table.{display_name_of, action_seconds}
 use Rattle.action_table.specs.declared.action.Action.{Action}
-use Rattle.macro_text.specs.Seconds.{seconds_of_action}
 
 -- how many actions a block takes; the last block may have fewer
 abbrev pub block_length : ℕ
@@ -19,7 +18,7 @@ macro_line i = codes "macro " ++ (decimal i ++ codes "\n")
 
 -- the line of an action, with its display name and its seconds
 abbrev pub action_line : Action → List ℕ
-action_line action = codes "/ac \"" ++ (display_name_of action ++ (codes "\" <wait." ++ (decimal (seconds_of_action action) ++ codes ">\n")))
+action_line action = codes "/ac \"" ++ (display_name_of action ++ (codes "\" <wait." ++ (decimal (action_seconds action) ++ codes ">\n")))
 
 -- the text of the block with this number
 abbrev pub block_text : ℕ → List Action → List ℕ

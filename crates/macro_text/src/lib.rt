@@ -1,12 +1,10 @@
-// The text of a macro, in blocks that the game takes.
+//! The text of a macro, in blocks that the game takes.
 #![tactic(auto)]
 
-ghost use Rattle.std.specs.Prelude.{◌≡◌, ℕ, ◌≤◌, ◌++◌, IfOk, OnOk, string_bytes};
-ghost use Rattle.action_table.specs.Table.{row_of};
+ghost use Rattle.std.specs.Prelude.{◌≡◌, ◌≤◌, ◌++◌, IfOk, OnOk, string_bytes};
 ghost use Rattle.macro_text.specs.Blocks.{blocks_of, block_text, action_line};
-ghost use Rattle.macro_text.specs.Seconds.{seconds_of_action};
 
-use action_table::{Action, WantMemory, row};
+use action_table::{Action, WantMemory};
 use std::alloc::{AllocError, Global};
 use std::fmt::Write;
 
@@ -15,17 +13,6 @@ mod tests;
 
 // How many actions a block takes.
 const BLOCK_LENGTH: usize = 15;
-
-// A crafter's least level.
-const LEAST_LEVEL: u32 = 1;
-
-/// The seconds that an action takes. They are those of its row at every level.
-pub fn seconds(action: Action) -> u32
-    ensures value { result ≡ seconds_of_action action }
-    ensures row { (level : ℕ) → (row_of action level).seconds ≡ result }
-{
-    row(action, LEAST_LEVEL).seconds
-}
 
 /// The text of these actions: they are cut into fifteens, of which the last may have fewer. Each gives a block, the
 /// line `macro i` with i from 1 on, and then a line `/ac "Name" <wait.s>` for each of its actions, with the action's
@@ -56,6 +43,6 @@ fn push_action_line(text: &mut String, action: Action) -> Result<(), AllocError>
     ensures { OnOk result (string_bytes text.new ≡ string_bytes text.old ++ action_line action) }
 {
     let name = action.display_name();
-    let seconds = seconds(action);
+    let seconds = action.seconds();
     writeln!(text, "/ac \"{name}\" <wait.{seconds}>")
 }

@@ -1,4 +1,4 @@
-use crate::{blocks, seconds};
+use crate::blocks;
 use action_table::Action;
 use std::test::Fail;
 
@@ -27,17 +27,4 @@ fn writes_each_action(rt: HostRuntime) -> Result<(), Fail> {
         b"macro 1\n/ac \"Innovation\" <wait.2>\n/ac \"Master's Mend\" <wait.3>\n/ac \"Waste Not II\" <wait.2>\n/ac \"Basic Synthesis\" <wait.3>\n";
     assert!(rt; text.as_slice() == wanted.as_slice());
     Ok(())
-}
-
-// The seconds of each action, in action order.
-const SECONDS: [u32; 26] = [
-    3, 3, 3, 3, 2, 2, 3, 2, 2, 2, 3, 3, 3, 2, 3, 3, 3, 3, 3, 3, 3, 3, 3, 3, 3, 3,
-];
-
-#[test]
-fn waits_as_the_rows_say(rt: HostRuntime) {
-    for number in 0..Action::COUNT {
-        let action = Action::from_number(number).expect(&rt, "an action");
-        assert_eq!(rt; seconds(action), SECONDS[usize::from(number)], "{action:?}");
-    }
 }

@@ -1,5 +1,6 @@
 -- Parts as the nodes of a level are added to them.
 use Rattle.std.proofs.Common.{◌≡◌, ◌∙◌, ℕ, ◌+◌, ◌<◌, ◌⊎◌, inl, inr, List, [], ◌∷◌, ◌++◌, length, get_or, set, Contains, Vec, arith, refl, ap, sym, subst}
+use Rattle.plain_lemmas.proofs.Tests.{below_or_at, same_or_other}
 use Rattle.std.proofs.lemmas.List.{get_or_default, get_or-set_same, get_or-set_other, length-set}
 use Rattle.craft_state.specs.Craft.{AreEffects}
 use Rattle.pareto_front.specs.declared.node.Node.{Node}
@@ -7,13 +8,9 @@ use Rattle.pareto_front.specs.declared.parts.Entry.{Entry}
 use Rattle.pareto_front.specs.Keys.{key_of}
 use Rattle.pareto_front.specs.Lists.{items_of}
 use Rattle.pareto_front.specs.Parts.{part_of, entry_of, IsEntry, AreParts}
-use Rattle.prefix_fronts.proofs.Lists.{Among-append_cases, Among-append_left, Among-append_right}
-use Rattle.pareto_front.proofs.Members.{Contains-Among, Among-Contains}
+use Rattle.plain_lemmas.proofs.Lists.{Among-append_cases, Among-append_left, Among-append_right}
+use Rattle.plain_lemmas.proofs.Places.{Contains-Among, Among-Contains}
 use Rattle.pareto_front.proofs.Vectors.{length-items}
-use Rattle.pareto_front.proofs.Equals.{same_or_other}
-
-last_or_before : (g n : ℕ) → g < n + 1 → (g < n) ⊎ (g ≡ n)
-last_or_before g n h = grind arith
 
 -- no nodes, and empty parts
 pub parts-empty : (level : List Node) (parts : List (List Entry)) → ((g : ℕ) → get_or parts g [] ≡ []) → AreParts level 0 parts
@@ -46,7 +43,7 @@ pub parts-more : (level : List Node) (count : ℕ) (parts : List (List Entry)) (
     i < length parts → i ≡ part_of (key_of n.state) (length parts) → AreParts level count parts →
     AreParts level (count + 1) (set parts i (get_or parts i [] ++ entry_of count n ∷ []))
 parts-more level count parts i n inside at bounds low is are = record {
-  effects = λ j m below stands. elim (last_or_before j count below) [
+  effects = λ j m below stands. elim (below_or_at j count below) [
     | inl old ↦ are.effects j m old stands
     | inr here ↦ subst (λ (x : Node). AreEffects x.state.effects) (sym (node_at m (subst (λ (p : ℕ). m ≡ get_or level p m) here stands))) bounds
   ];
@@ -58,7 +55,7 @@ parts-more level count parts i n inside at bounds low is are = record {
     )
   ];
   whole = λ j m below stands. subst (λ (c : ℕ). Contains (get_or (set parts i grown) (part_of (key_of m.state) c) []) (entry_of j m)) (sym long)
-      (elim (last_or_before j count below) [
+      (elim (below_or_at j count below) [
         | inl old ↦ keep (part_of (key_of m.state) (length parts)) (entry_of j m) (are.whole j m old stands)
         | inr here ↦
             let same : m ≡ n = node_at m (subst (λ (p : ℕ). m ≡ get_or level p m) here stands) in

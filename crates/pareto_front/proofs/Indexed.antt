@@ -1,5 +1,6 @@
 -- Kept states by their keys.
 use Rattle.std.proofs.Common.{◌≡◌, ◌∙◌, ℕ, suc, ◌+◌, ◌<◌, ◌≤◌, inl, inr, ◌&&◌, ◌||◌, ◌==◌, nat_le, not, cond, Bool, true, false, List, [], ◌∷◌, ◌++◌, length, get_or, set, map, filter, Vec, reverse, arith, refl, ap, sym, subst}
+use Rattle.plain_lemmas.proofs.Tests.{bool_cases, clash, same_answer, and_both, and_by, eq_from, eq_to}
 use Rattle.std.specs.List.{All, list_any, position_or_len}
 use Rattle.std.proofs.lemmas.Bool.Decides.{nat_tests}
 use Rattle.std.proofs.lemmas.List.{append-nil, length-set, map-append}
@@ -7,15 +8,13 @@ use Rattle.std.proofs.lemmas.List.Elements.{All-push, All-tail, filter-append}
 use Rattle.std.proofs.lemmas.List.Sorted.{IsPermutation-reverse, list_any-IsPermutation}
 use Rattle.craft_state.specs.Craft.{StateFields, AreEffects}
 use Rattle.craft_state.specs.NotLess.{is_not_less}
-use Rattle.pareto_front.specs.Columns.{Numbers, numbers_of, reaches}
+use Rattle.pareto_front.specs.Columns.{Numbers, numbers_of, are_no_less}
 use Rattle.pareto_front.specs.Lists.{items_of}
 use Rattle.pareto_front.specs.Keys.{key_of}
 use Rattle.pareto_front.specs.Kept.{is_covered, numbers_with, group_at, AreIndexed}
-use Rattle.prefix_fronts.proofs.Lists.{bool_cases, clash, same_answer}
-use Rattle.prefix_fronts.proofs.Dominance.{and_both, and_by, IsNotLess-from, is_not_less-by}
+use Rattle.prefix_fronts.proofs.Dominance.{IsNotLess-from, is_not_less-by}
 use Rattle.pareto_front.proofs.Packed.{key-same, same-key}
 use Rattle.pareto_front.proofs.Vectors.{length-more, vector-at, items-added}
-use Rattle.pareto_front.proofs.Equals.{number_same, same_number}
 
 abbrev place_of : ℕ → List ℕ → ℕ
 place_of key keys = position_or_len (λ k. key == k) keys
@@ -66,7 +65,7 @@ group_at-set (k ∷ keys) (h ∷ groups) key other g e inside =
           let at : place_of key (k ∷ keys) ≡ 0 = ap (λ (b : Bool). cond (not b) (1 + place_of key keys) 0) same in
           ap (λ (i : ℕ). group_at (k ∷ keys) (set (h ∷ groups) i g) other) at
           ∙ twice (other == k) g h (group_at keys groups other)
-          ∙ ap (λ (x : ℕ). cond (other == x) g (group_at (k ∷ keys) (h ∷ groups) other)) (sym (number_same key k same))
+          ∙ ap (λ (x : ℕ). cond (other == x) g (group_at (k ∷ keys) (h ∷ groups) other)) (sym (eq_from key k same))
       | inr differ ↦
           let at : place_of key (k ∷ keys) ≡ 1 + place_of key keys = ap (λ (b : Bool). cond (not b) (1 + place_of key keys) 0) differ in
           let low : place_of key keys < length groups = omega (arith, inside, at) in
@@ -74,7 +73,7 @@ group_at-set (k ∷ keys) (h ∷ groups) key other g e inside =
           ∙ ap (λ (l : List (List Numbers)). group_at (k ∷ keys) l other) (set-later h groups (place_of key keys) g)
           ∙ ap (λ (l : List Numbers). cond (other == k) h l) (group_at-set keys groups key other g (omega (arith, e)) low)
           ∙ swap_cases (other == k) (other == key) h g (group_at keys groups other)
-          (λ p q. clash (same_number key k (sym (number_same other key q) ∙ number_same other k p)) differ)
+          (λ p q. clash (eq_to key k (sym (eq_from other key q) ∙ eq_from other k p)) differ)
     ]
 
 pub numbers-push : (key : ℕ) (states : List StateFields) (s : StateFields) →
@@ -119,7 +118,7 @@ indexed-push states keys groups s inside bounds are = record {
   both : (other : ℕ) → cond (other == key_of s) grown (group_at keys groups other) ≡ numbers_with other (states ++ s ∷ [])
   both other = elim (bool_cases (other == key_of s)) [
     | inl same ↦
-        ap (λ (b : Bool). cond b grown (group_at keys groups other)) same ∙ mine other (number_same other (key_of s) same)
+        ap (λ (b : Bool). cond b grown (group_at keys groups other)) same ∙ mine other (eq_from other (key_of s) same)
         ∙ sym (numbers-push other states s ∙ ap (λ (b : Bool). cond b (numbers_with other states ++ numbers_of s ∷ []) (numbers_with other states)) same)
     | inr differ ↦
         ap (λ (b : Bool). cond b grown (group_at keys groups other)) differ ∙ are.grouped other
@@ -133,50 +132,50 @@ three_by : (a b c d e f : ℕ) → a ≤ b → c ≤ d → e ≤ f → (nat_le a
 three_by a b c d e f h k l = grind (arith, nat_tests)
 
 -- a state is not less exactly where it has the same key and its numbers reach the other's
-pub not_less-key : (t s : StateFields) → AreEffects t.effects → AreEffects s.effects → is_not_less t s ≡ ((key_of s == key_of t) && reaches (numbers_of t) (numbers_of s))
-unfolding reaches
-not_less-key t s bt bs = same_answer (is_not_less t s) ((key_of s == key_of t) && reaches (numbers_of t) (numbers_of s)) to from where
+pub not_less-key : (t s : StateFields) → AreEffects t.effects → AreEffects s.effects → is_not_less t s ≡ ((key_of s == key_of t) && are_no_less (numbers_of t) (numbers_of s))
+unfolding are_no_less
+not_less-key t s bt bs = same_answer (is_not_less t s) ((key_of s == key_of t) && are_no_less (numbers_of t) (numbers_of s)) to from where
   to : is_not_less t s ≡ true → ((key_of s == key_of t) && (nat_le s.cp t.cp && nat_le s.durability t.durability && nat_le s.quality t.quality)) ≡ true
   to h =
       let n = IsNotLess-from t s h in
       and_by (key_of s == key_of t) (nat_le s.cp t.cp && nat_le s.durability t.durability && nat_le s.quality t.quality)
-      (same_number (key_of s) (key_of t) (sym (same-key t s n.progress n.effects)))
+      (eq_to (key_of s) (key_of t) (sym (same-key t s n.progress n.effects)))
       (three_by s.cp t.cp s.durability t.durability s.quality t.quality n.cp n.durability n.quality)
 
   from : ((key_of s == key_of t) && (nat_le s.cp t.cp && nat_le s.durability t.durability && nat_le s.quality t.quality)) ≡ true → is_not_less t s ≡ true
   from h =
       let two = and_both (key_of s == key_of t) (nat_le s.cp t.cp && nat_le s.durability t.durability && nat_le s.quality t.quality) h in
-      let fields = key-same t s bt bs (sym (number_same (key_of s) (key_of t) two.0)) in
+      let fields = key-same t s bt bs (sym (eq_from (key_of s) (key_of t) two.0)) in
       let numbers = three_of s.cp t.cp s.durability t.durability s.quality t.quality two.1 in
       is_not_less-by t s record { progress = fields.0; effects = fields.1; cp = numbers.0; durability = numbers.1; quality = numbers.2 }
 
 -- what the numbers with the key of s reach
 reached-states : (states : List StateFields) (s : StateFields) → All (λ t. AreEffects t.effects) states → AreEffects s.effects →
-    list_any (λ n. reaches n (numbers_of s)) (numbers_with (key_of s) states) ≡ is_covered states s
+    list_any (λ n. are_no_less n (numbers_of s)) (numbers_with (key_of s) states) ≡ is_covered states s
 reached-states [] s all bounds = refl
 reached-states (t ∷ states) s all bounds =
-    elim (key_of s == key_of t) as (λ b. list_any (λ n. reaches n (numbers_of s)) (map numbers_of (cond b (t ∷ filter (λ t. key_of s == key_of t) states) (filter (λ t. key_of s == key_of t) states)))
-    ≡ (b && reaches (numbers_of t) (numbers_of s)) || is_covered states s) [
-      | true ↦ ap (λ (b : Bool). reaches (numbers_of t) (numbers_of s) || b) (reached-states states s (All-tail (λ (u : StateFields). AreEffects u.effects) t states all) bounds)
+    elim (key_of s == key_of t) as (λ b. list_any (λ n. are_no_less n (numbers_of s)) (map numbers_of (cond b (t ∷ filter (λ t. key_of s == key_of t) states) (filter (λ t. key_of s == key_of t) states)))
+    ≡ (b && are_no_less (numbers_of t) (numbers_of s)) || is_covered states s) [
+      | true ↦ ap (λ (b : Bool). are_no_less (numbers_of t) (numbers_of s) || b) (reached-states states s (All-tail (λ (u : StateFields). AreEffects u.effects) t states all) bounds)
       | false ↦ reached-states states s (All-tail (λ (u : StateFields). AreEffects u.effects) t states all) bounds
     ]
     ∙ ap (λ (b : Bool). b || is_covered states s) (sym (not_less-key t s (all 0 t (omega arith)) bounds))
 
--- the group of a state's key reaches it exactly where a kept state covers it
+-- the group of a state's key has one that is no less exactly where a kept state covers it
 pub reached-covered : (states : List StateFields) (keys : List ℕ) (groups : List (List Numbers)) (s : StateFields) → AreEffects s.effects → AreIndexed states keys groups →
-    list_any (λ n. reaches n (numbers_of s)) (get_or groups (place_of (key_of s) keys) []) ≡ is_covered states s
+    list_any (λ n. are_no_less n (numbers_of s)) (get_or groups (place_of (key_of s) keys) []) ≡ is_covered states s
 reached-covered states keys groups s bounds are =
-    ap (list_any (λ n. reaches n (numbers_of s))) (group-at_place keys groups (key_of s) are.as_many ∙ are.grouped (key_of s)) ∙ reached-states states s are.effects bounds
+    ap (list_any (λ n. are_no_less n (numbers_of s))) (group-at_place keys groups (key_of s) are.as_many ∙ are.grouped (key_of s)) ∙ reached-states states s are.effects bounds
 
 -- what a test of the numbers at the place of a key answers
 pub answer-covered : {A : Type 0} (states : List StateFields) (keys : List ℕ) (groups : List (Vec Numbers A)) (s : StateFields) (key index : ℕ) (v : Vec Numbers A) (list : List Numbers) (numbers : Numbers) (found : Bool) →
     AreEffects s.effects → key ≡ key_of s → index ≡ position_or_len (λ k. key == k) keys → index < length groups → v ≡ get_or groups index v → list ≡ v.items → numbers ≡ numbers_of s →
-    found ≡ list_any (λ n. reaches n numbers) (reverse list) → AreIndexed states keys (items_of groups) → found ≡ is_covered states s
+    found ≡ list_any (λ n. are_no_less n numbers) (reverse list) → AreIndexed states keys (items_of groups) → found ≡ is_covered states s
 answer-covered states keys groups s key index v list numbers found bounds key_is index_is inside v_is list_is numbers_is found_is are =
     found_is
-    ∙ sym (list_any-IsPermutation (λ n. reaches n numbers) list (reverse list) (IsPermutation-reverse list))
-    ∙ ap (λ (n : Numbers). list_any (λ m. reaches m n) list) numbers_is
-    ∙ ap (list_any (λ m. reaches m (numbers_of s)))
+    ∙ sym (list_any-IsPermutation (λ n. are_no_less n numbers) list (reverse list) (IsPermutation-reverse list))
+    ∙ ap (λ (n : Numbers). list_any (λ m. are_no_less m n) list) numbers_is
+    ∙ ap (list_any (λ m. are_no_less m (numbers_of s)))
     (list_is ∙ vector-at groups index v inside v_is ∙ ap (λ (i : ℕ). get_or (items_of groups) i []) (index_is ∙ ap (λ (k : ℕ). place_of k keys) key_is))
     ∙ reached-covered states keys (items_of groups) s bounds are
 

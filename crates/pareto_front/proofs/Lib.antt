@@ -1,9 +1,7 @@
 pub mod Covered
 pub mod Divisions
-pub mod Equals
 pub mod Indexed
 pub mod Marks
-pub mod Members
 pub mod Merge
 pub mod Packed
 pub mod Places

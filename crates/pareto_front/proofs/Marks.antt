@@ -1,10 +1,10 @@
 -- Marks by place.
 use Rattle.std.proofs.Common.{◌≡◌, ◌∙◌, ℕ, ◌+◌, ◌<◌, ◌≤◌, ◌==◌, ◌||◌, Bool, true, false, List, [], ◌∷◌, ◌++◌, length, get_or, set, take, drop, append-nil, inl, inr, arith, refl, ap, sym, subst}
+use Rattle.plain_lemmas.proofs.Tests.{eq_to, other_number, same_or_other}
 use Rattle.std.specs.List.{list_any}
 use Rattle.std.proofs.lemmas.List.{take_more, take_all, drop_all, length-set, get_or-set_same, get_or-set_other}
 use Rattle.pareto_front.specs.declared.parts.Entry.{Entry}
 use Rattle.pareto_front.specs.Parts.{has_place, AreMarked, AreMarks}
-use Rattle.pareto_front.proofs.Equals.{same_number, other_number, same_or_other}
 
 pub any-append : {X : Type 0} (t : X → Bool) (xs ys : List X) → list_any t (xs ++ ys) ≡ (list_any t xs || list_any t ys)
 any-append t [] ys = refl
@@ -38,7 +38,7 @@ marked-set places i x before now inside is low marked = record {
   set = λ j d below. elim (same_or_other j x) [
     | inl here ↦
         let more : has_place j (take (i + 1) places) ≡ (has_place j (take i places) || (x == j)) = any-more (λ p. p == j) places i x inside is in
-        let hit : (x == j) ≡ true = subst (λ (k : ℕ). (x == k) ≡ true) (sym here) (same_number x x refl) in
+        let hit : (x == j) ≡ true = subst (λ (k : ℕ). (x == k) ≡ true) (sym here) (eq_to x x refl) in
         subst (λ (k : ℕ). get_or (set now x true) k d ≡ true) (sym here) (get_or-set_same now x true d low)
         ∙ sym (ap (λ b. get_or before j d || b) (more ∙ ap (λ b. has_place j (take i places) || b) hit ∙ set_here (has_place j (take i places))) ∙ set_here (get_or before j d))
     | inr other ↦

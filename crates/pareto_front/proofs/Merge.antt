@@ -1,5 +1,6 @@
 -- A mark is set exactly where no node of the level covers.
 use Rattle.std.proofs.Common.{◌≡◌, ◌∙◌, ℕ, zero, suc, ◌+◌, ◌<◌, ◌&&◌, ◌==◌, not, Bool, true, false, List, [], ◌∷◌, length, get_or, map, Contains, Vec, Result, Ok, Err, IfOk, MatchResult, arith, refl, ap, sym, subst}
+use Rattle.plain_lemmas.proofs.Tests.{same_answer, eq_from, eq_to}
 use Rattle.std.specs.List.{list_any, enumerate_from, AllZip}
 use Rattle.std.proofs.lemmas.Bool.Decides.{nat_tests}
 use Rattle.std.proofs.lemmas.List.{get_or_default}
@@ -7,17 +8,15 @@ use Rattle.std.proofs.lemmas.List.FromFn.{length-enumerate_from, get_or-enumerat
 use Rattle.craft_state.specs.Craft.{AreEffects}
 use Rattle.pareto_front.specs.declared.node.Node.{Node}
 use Rattle.pareto_front.specs.declared.parts.Entry.{Entry}
-use Rattle.pareto_front.specs.Columns.{numbers_of, reaches}
+use Rattle.pareto_front.specs.Columns.{numbers_of, are_no_less}
 use Rattle.pareto_front.specs.Covers.{is_earlier, covers, is_covered, uncovered}
 use Rattle.pareto_front.specs.Keys.{key_of}
 use Rattle.pareto_front.specs.Lists.{items_of}
 use Rattle.pareto_front.specs.Parts.{part_of, entry_of, outdoes, survives, Keeps, AreParts, AreMarks, has_place, marked_of}
-use Rattle.prefix_fronts.proofs.Lists.{Among, same_answer, any-Among, Among-any, filter-same}
-use Rattle.prefix_fronts.proofs.Members.{Among-get_or}
+use Rattle.plain_lemmas.proofs.Lists.{Among, any-Among, Among-any, filter-same}
 use Rattle.pareto_front.proofs.Indexed.{not_less-key}
-use Rattle.pareto_front.proofs.Members.{Contains-Among, Among-Contains, Among-place}
+use Rattle.plain_lemmas.proofs.Places.{Contains-Among, Among-Contains, Among-place, Among-get_or}
 use Rattle.pareto_front.proofs.Sweeps.{outdoes-key}
-use Rattle.pareto_front.proofs.Equals.{number_same, same_number}
 
 abbrev pub KeepsAll : List (List Entry) → List (List ℕ) → Type 0
 KeepsAll parts kept = AllZip Keeps parts kept
@@ -64,7 +63,7 @@ flipped a b = grind (arith, nat_tests)
 covers-outdoes : (i j : ℕ) (a b : Node) → AreEffects a.state.effects → AreEffects b.state.effects → covers i a j b ≡ outdoes (entry_of i a) (entry_of j b)
 unfolding covers outdoes
 covers-outdoes i j a b ba bb =
-    ap (λ (t : Bool). t && is_earlier i a j b) (not_less-key a.state b.state ba bb ∙ ap (λ (t : Bool). t && reaches (numbers_of a.state) (numbers_of b.state)) (flipped (key_of b.state) (key_of a.state)))
+    ap (λ (t : Bool). t && is_earlier i a j b) (not_less-key a.state b.state ba bb ∙ ap (λ (t : Bool). t && are_no_less (numbers_of a.state) (numbers_of b.state)) (flipped (key_of b.state) (key_of a.state)))
 
 -- a node survives in the part of its key exactly where no node covers it
 survives-uncovered : (level : List Node) (parts : List (List Entry)) (j : ℕ) (b : Node) → AreParts level (length level) parts → j < length level → b ≡ get_or level j b →
@@ -115,7 +114,7 @@ mark-says level parts kept marks j b mark are all set low is = set.set j mark lo
       let e = sound.0 in
       let both = are.entries g e sound.1 in
       let entry = both.0 in
-      let place : e.place ≡ j = sound.3 ∙ number_same p.0 j p.2 in
+      let place : e.place ≡ j = sound.3 ∙ eq_from p.0 j p.2 in
       let node : entry.node ≡ b = subst (λ (k : ℕ). entry.node ≡ get_or level k entry.node) place entry.at ∙ get_or_default level j entry.node b low ∙ sym is in
       let same : e ≡ entry_of j b = entry.is ∙ ap (λ (k : ℕ). entry_of k entry.node) place ∙ ap (entry_of j) node in
       let home : g ≡ part_of (key_of b.state) (length parts) = both.1 ∙ ap (λ (x : Entry). part_of x.key (length parts)) same in
@@ -129,7 +128,7 @@ mark-says level parts kept marks j b mark are all set low is = set.set j mark lo
       let within : g < length parts = inside_part parts g (entry_of j b) member in
       let keeps = keeps-at parts kept g all within in
       let place : Contains (get_or kept g []) j = keeps.whole (entry_of j b) member (mine ∙ h) in
-      let hit : has_place j (get_or kept g []) ≡ true = Among-any (λ (x : ℕ). x == j) j (get_or kept g []) (Contains-Among (get_or kept g []) j place) (same_number j j refl) in
+      let hit : has_place j (get_or kept g []) ≡ true = Among-any (λ (x : ℕ). x == j) j (get_or kept g []) (Contains-Among (get_or kept g []) j place) (eq_to j j refl) in
       Among-any (has_place j) (get_or kept g []) kept (Among-get_or kept g [] (omega (arith, within, length-keeps parts kept all))) hit
 
 -- the marked nodes are those that none covers

@@ -1,5 +1,6 @@
 -- States with the same key have equal progress and effects.
 use Rattle.std.proofs.Common.{◌≡◌, ◌∙◌, sym, ℕ, ◌+◌, ◌*◌, ◌^◌, ◌<◌, Bool, true, false, if◌then◌else◌, arith, refl}
+use Rattle.plain_lemmas.proofs.Tests.{bit, bit_same, bit_small}
 use Rattle.craft_state.specs.declared.Combo.{Combo}
 use Rattle.craft_state.specs.declared.Combo.TheVariants.{NoCombo, Basic, Standard}
 use Rattle.craft_state.specs.declared.Perfection.{Perfection}
@@ -8,15 +9,6 @@ use Rattle.craft_state.specs.Craft.{EffectFields, StateFields, AreEffects}
 use Rattle.craft_state.specs.Pack.{combo_number, perfection_number, pack_of}
 use Rattle.pareto_front.specs.Keys.{key_of}
 use Rattle.prefix_fronts.proofs.Dominance.{combo_same, perfection_same}
-
-abbrev bit : Bool → ℕ
-bit b = if b then 1 else 0
-
-bit_same : (a b : Bool) → bit a ≡ bit b → a ≡ b
-bit_same true true h = refl
-bit_same true false h = absurd (omega arith)
-bit_same false true h = absurd (omega arith)
-bit_same false false h = refl
 
 combo_small : (c : Combo) → combo_number c < 4
 combo_small NoCombo = omega arith
@@ -27,10 +19,6 @@ perfection_small : (p : Perfection) → perfection_number p < 4
 perfection_small Ready = omega arith
 perfection_small On = omega arith
 perfection_small Spent = omega arith
-
-bit_small : (b : Bool) → bit b < 2
-bit_small true = omega arith
-bit_small false = omega arith
 
 -- the lowest digits of equal numbers are equal, and so are the others
 digits_2 : (x y p q : ℕ) → x < 4 → y < 4 → x + 4 * p ≡ y + 4 * q → (x ≡ y) × (p ≡ q)

@@ -1,5 +1,6 @@
 -- What is kept of a part in the order of keys, then seconds, then places.
 use Rattle.std.proofs.Common.{◌≡◌, ◌∙◌, ℕ, zero, suc, ◌+◌, ◌<◌, ◌≤◌, inl, inr, ◌==◌, ◌&&◌, ◌||◌, nat_lt, nat_le, cond, Bool, true, false, not, List, [], ◌∷◌, ◌++◌, length, get_or, take, map, filter, IsPermutation, arith, refl, ap, sym, subst}
+use Rattle.plain_lemmas.proofs.Tests.{bool_cases, clash, eq_from, eq_to, other_number}
 use Rattle.std.specs.List.{list_any}
 use Rattle.std.specs.Ordering.{is_lt, ordering_then, nat_cmp}
 use Rattle.std.proofs.lemmas.Bool.Decides.{nat_tests}
@@ -7,12 +8,10 @@ use Rattle.std.proofs.lemmas.List.{take_all, map-append, get_or-map, length-map}
 use Rattle.std.proofs.lemmas.List.Elements.{filter-append}
 use Rattle.std.proofs.lemmas.List.Sorted.{list_any-IsPermutation, Contains-permutation, IsPermutation-sym}
 use Rattle.pareto_front.specs.declared.parts.Entry.{Entry}
-use Rattle.pareto_front.specs.Columns.{Numbers, reaches, is_enough, NoneEnough, IsFirstEnough}
+use Rattle.pareto_front.specs.Columns.{Numbers, are_no_less, is_enough, NoneEnough, IsFirstEnough}
 use Rattle.pareto_front.specs.Parts.{outdoes, survives, is_before, AreSorted, Keeps, Tries, asks_of}
-use Rattle.prefix_fronts.proofs.Lists.{Among, bool_cases, clash, Among-filter, filter-Among, filter-none, Among-append_cases, Among-append_left, Among-append_right, Among-any, Among-map, map-Among, topmost}
-use Rattle.prefix_fronts.proofs.Members.{Among-get_or}
-use Rattle.pareto_front.proofs.Members.{Contains-Among, Among-Contains, Among-take_more, Among-take_before, Among-take_at, Among-place, place-take, take-place}
-use Rattle.pareto_front.proofs.Equals.{number_same, same_number, other_number}
+use Rattle.plain_lemmas.proofs.Lists.{Among, Among-filter, filter-Among, filter-none, Among-append_cases, Among-append_left, Among-append_right, Among-any, Among-map, map-Among, topmost}
+use Rattle.plain_lemmas.proofs.Places.{Contains-Among, Among-Contains, Among-take_more, Among-take_before, Among-take_at, Among-place, place-take, take-place, Among-get_or}
 
 -- three numbers in the order of the first, then the second, then the third
 abbrev earlier : ℕ → ℕ → ℕ → ℕ → Bool
@@ -48,34 +47,34 @@ not_earlier_3-key k s p l t q h = grind (arith, nat_tests)
 pub triple_before : (k l a b p q : ℕ) → is_lt (ordering_then (ordering_then (nat_cmp k l) (nat_cmp a b)) (nat_cmp p q)) ≡ false → earlier_3 k a p l b q ≡ false
 triple_before k l a b p q h = grind (arith, nat_tests)
 
--- what outdoes has the same key, reaches the numbers, and comes before
+-- what outdoes has the same key, no number less, and comes before
 record Beats (a b : Entry) : Type 0 where
   key : a.key ≡ b.key
-  numbers : reaches a.numbers b.numbers ≡ true
+  numbers : are_no_less a.numbers b.numbers ≡ true
   before : is_before a b ≡ true
 
 beats : (a b : Entry) → outdoes a b ≡ true → Beats a b
 unfolding outdoes
 beats a b h =
-    let t = earlier_3-of a.key a.seconds a.place b.key b.seconds b.place (reaches a.numbers b.numbers) h in
+    let t = earlier_3-of a.key a.seconds a.place b.key b.seconds b.place (are_no_less a.numbers b.numbers) h in
     record { key = t.0; numbers = t.1; before = t.2 }
 
 pub outdoes-key : (a b : Entry) → outdoes a b ≡ true → a.key ≡ b.key
 outdoes-key a b h = (beats a b h).key
 
-outdoes-by : (a b : Entry) → a.key ≡ b.key → reaches a.numbers b.numbers ≡ true → is_before a b ≡ true → outdoes a b ≡ true
+outdoes-by : (a b : Entry) → a.key ≡ b.key → are_no_less a.numbers b.numbers ≡ true → is_before a b ≡ true → outdoes a b ≡ true
 unfolding outdoes
-outdoes-by a b key numbers before = of-earlier_3 a.key a.seconds a.place b.key b.seconds b.place (reaches a.numbers b.numbers) key numbers before
+outdoes-by a b key numbers before = of-earlier_3 a.key a.seconds a.place b.key b.seconds b.place (are_no_less a.numbers b.numbers) key numbers before
 
-reaches-trans : (a b c : Numbers) → reaches a b ≡ true → reaches b c ≡ true → reaches a c ≡ true
-unfolding reaches
-reaches-trans a b c h k = by b.cp a.cp b.durability a.durability b.quality a.quality c.cp c.durability c.quality h k where
+are_no_less-trans : (a b c : Numbers) → are_no_less a b ≡ true → are_no_less b c ≡ true → are_no_less a c ≡ true
+unfolding are_no_less
+are_no_less-trans a b c h k = by b.cp a.cp b.durability a.durability b.quality a.quality c.cp c.durability c.quality h k where
   by : (p q r s t u v w x : ℕ) → (nat_le p q && nat_le r s && nat_le t u) ≡ true → (nat_le v p && nat_le w r && nat_le x t) ≡ true → (nat_le v q && nat_le w s && nat_le x u) ≡ true
   by p q r s t u v w x h k = grind (arith, nat_tests)
 
-reaches-self : (a : Numbers) → reaches a a ≡ true
-unfolding reaches
-reaches-self a = by a.cp a.durability a.quality where
+are_no_less-self : (a : Numbers) → are_no_less a a ≡ true
+unfolding are_no_less
+are_no_less-self a = by a.cp a.durability a.quality where
   by : (p q r : ℕ) → (nat_le p p && nat_le q q && nat_le r r) ≡ true
   by p q r = grind (arith, nat_tests)
 
@@ -89,7 +88,7 @@ outdoes-trans : (a b c : Entry) → outdoes a b ≡ true → outdoes b c ≡ tru
 outdoes-trans a b c h k =
     let x = beats a b h in
     let y = beats b c k in
-    outdoes-by a c (x.key ∙ y.key) (reaches-trans a.numbers b.numbers c.numbers x.numbers y.numbers)
+    outdoes-by a c (x.key ∙ y.key) (are_no_less-trans a.numbers b.numbers c.numbers x.numbers y.numbers)
     (earlier_3-trans a.key a.seconds a.place b.key b.seconds b.place c.key c.seconds c.place x.before y.before)
 
 -- neighbours in order make a list in order
@@ -126,7 +125,7 @@ none-survives part e h = elim (bool_cases (list_any (λ o. outdoes o e) part)) [
 record StandsFor (k e : Entry) : Type 0 where
   key : k.key ≡ e.key
   place : k.place ≡ e.place
-  numbers : reaches k.numbers e.numbers ≡ true
+  numbers : are_no_less k.numbers e.numbers ≡ true
 
 abbrev numbers_with : ℕ → List Entry → List Numbers
 numbers_with key kept = map (λ k. k.numbers) (filter (λ k. k.key == key) kept)
@@ -162,7 +161,7 @@ swept-turned sorted n key x rows rows' places order inside is turned swept = rec
   kept = swept.kept;
   is = swept.is;
   columns = elim (bool_cases (x.key == key)) [
-    | inl same ↦ turned ∙ ap (λ (b : Bool). cond b rows []) same ∙ swept.columns ∙ ap (λ (k : ℕ). numbers_with k swept.kept) (sym (number_same x.key key same))
+    | inl same ↦ turned ∙ ap (λ (b : Bool). cond b rows []) same ∙ swept.columns ∙ ap (λ (k : ℕ). numbers_with k swept.kept) (sym (eq_from x.key key same))
     | inr differ ↦
         turned ∙ ap (λ (b : Bool). cond b rows []) differ
         ∙ sym (ap (map (λ (k : Entry). k.numbers)) (filter-none (λ k. k.key == x.key) swept.kept (λ e h. other_number e.key x.key (λ same. apart e.key key x.key same (swept.most e h) up (not_same differ)))))
@@ -186,17 +185,17 @@ swept-turned sorted n key x rows rows' places order inside is turned swept = rec
   up = subst (λ (y : Entry). key ≤ y.key) (sym is) (swept.least n x (omega arith) inside)
 
   not_same : (x.key == key) ≡ false → x.key ≡ key → ⊥
-  not_same differ same = clash (same_number x.key key same) differ
+  not_same differ same = clash (eq_to x.key key same) differ
 
   apart : (a k b : ℕ) → a ≡ b → a ≤ k → k ≤ b → (b ≡ k → ⊥) → ⊥
   apart a k b same h i differ = differ (omega arith)
 
 -- a kept entry with the key of x, where the columns have none that is enough for x
-not_enough : (kept : List Entry) (x k : Entry) (rows : List Numbers) → rows ≡ numbers_with x.key kept → NoneEnough (asks_of x) rows (length rows) → Among k kept → k.key ≡ x.key → reaches k.numbers x.numbers ≡ false
-unfolding reaches
+not_enough : (kept : List Entry) (x k : Entry) (rows : List Numbers) → rows ≡ numbers_with x.key kept → NoneEnough (asks_of x) rows (length rows) → Among k kept → k.key ≡ x.key → are_no_less k.numbers x.numbers ≡ false
+unfolding are_no_less
 not_enough kept x k rows is none among same =
     let here : Among k.numbers rows = subst (λ (r : List Numbers). Among k.numbers r) (sym is)
-    (Among-map (λ (e : Entry). e.numbers) k (filter (λ e. e.key == x.key) kept) (Among-filter (λ e. e.key == x.key) k kept among (same_number k.key x.key same))) in
+    (Among-map (λ (e : Entry). e.numbers) k (filter (λ e. e.key == x.key) kept) (Among-filter (λ e. e.key == x.key) k kept among (eq_to k.key x.key same))) in
     let p = Among-place k.numbers rows here in
     subst (λ (r : Numbers). is_enough (asks_of x) r ≡ false) (p.at x.numbers) (none p.place x.numbers p.inside)
 
@@ -213,7 +212,7 @@ survives-new sorted n x rows places order inside is swept none =
             | inl below ↦
                 let early = place-take t.top sorted p.place n (grind arith) p.inside p.at in
                 let k = swept.whole t.top early (survives-none sorted t.top t.free) in
-                let enough = reaches-trans k.0.numbers t.top.numbers x.numbers k.2.numbers over.numbers in
+                let enough = are_no_less-trans k.0.numbers t.top.numbers x.numbers k.2.numbers over.numbers in
                 absurd (clash enough (not_enough swept.kept x k.0 rows swept.columns none k.1 (k.2.key ∙ over.key)))
             | inr above ↦
                 let late : is_before (get_or sorted p.place x) (get_or sorted n x) ≡ false = order.sorted n p.place x (grind arith) p.inside in
@@ -224,7 +223,7 @@ survives-new sorted n x rows places order inside is swept none =
     ]
 
 stands-self : (x : Entry) → StandsFor x x
-stands-self x = record { key = refl; place = refl; numbers = reaches-self x.numbers }
+stands-self x = record { key = refl; place = refl; numbers = are_no_less-self x.numbers }
 
 -- x is kept
 swept-kept : (sorted : List Entry) (n : ℕ) (x : Entry) (rows : List Numbers) (places : List ℕ) → AreSorted sorted → n < length sorted → x ≡ get_or sorted n x →
@@ -234,7 +233,7 @@ swept-kept sorted n x rows places order inside is swept none = record {
   is = ap (λ (l : List ℕ). l ++ x.place ∷ []) swept.is ∙ sym (map-append (λ (k : Entry). k.place) swept.kept (x ∷ []));
   columns =
       ap (λ (r : List Numbers). r ++ x.numbers ∷ []) swept.columns
-      ∙ sym (ap (map (λ (k : Entry). k.numbers)) (filter-append (λ k. k.key == x.key) swept.kept (x ∷ []) ∙ ap (λ (b : Bool). filter (λ k. k.key == x.key) swept.kept ++ cond b (x ∷ []) []) (same_number x.key x.key refl))
+      ∙ sym (ap (map (λ (k : Entry). k.numbers)) (filter-append (λ k. k.key == x.key) swept.kept (x ∷ []) ∙ ap (λ (b : Bool). filter (λ k. k.key == x.key) swept.kept ++ cond b (x ∷ []) []) (eq_to x.key x.key refl))
       ∙ map-append (λ (k : Entry). k.numbers) (filter (λ k. k.key == x.key) swept.kept) (x ∷ []));
   sound = λ e h. elim (Among-append_cases e swept.kept (x ∷ []) h) [
     | inl old ↦ let s = swept.sound e old in (Among-take_before sorted n x e inside s.0, s.1)
@@ -256,14 +255,14 @@ swept-kept sorted n x rows places order inside is swept none = record {
 -- the kept entry that the columns found stands for x, or x doesn't survive
 stands : (sorted : List Entry) (n p : ℕ) (x : Entry) (rows : List Numbers) (places : List ℕ) → AreSorted sorted → n < length sorted → x ≡ get_or sorted n x →
     (swept : Swept sorted n x.key rows places) → IsFirstEnough (asks_of x) rows p → survives sorted x ≡ true → (k : Entry) × Among k swept.kept × StandsFor k x
-unfolding reaches
+unfolding are_no_less
 stands sorted n p x rows places order inside is swept first alive =
     let same_key = filter (λ (e : Entry). e.key == x.key) swept.kept in
     let here = subst (λ (r : List Numbers). IsFirstEnough (asks_of x) r p) swept.columns first in
     let low : p < length same_key = omega (arith, here.inside, length-map same_key (λ (e : Entry). e.numbers)) in
     let k : Entry = get_or same_key p x in
     let filtered = filter-Among (λ (e : Entry). e.key == x.key) k swept.kept (Among-get_or same_key p x low) in
-    let key : k.key ≡ x.key = number_same k.key x.key filtered.1 in
+    let key : k.key ≡ x.key = eq_from k.key x.key filtered.1 in
     let enough : is_enough (asks_of x) k.numbers ≡ true = subst (λ (r : Numbers). is_enough (asks_of x) r ≡ true) (get_or-map (λ (e : Entry). e.numbers) same_key p x x.numbers low) (here.enough x.numbers) in
     let sound = swept.sound k filtered.0 in
     let at = take-place k sorted n sound.0 in

@@ -7,8 +7,8 @@ abbrev pub numbers_of : StateFields → Numbers
 numbers_of s = record { cp = s.cp; durability = s.durability; quality = s.quality }
 
 -- no number of the first is less
-unfoldable pub reaches : Numbers → Numbers → Bool
-reaches a b = nat_le b.cp a.cp && nat_le b.durability a.durability && nat_le b.quality a.quality
+unfoldable pub are_no_less : Numbers → Numbers → Bool
+are_no_less a b = nat_le b.cp a.cp && nat_le b.durability a.durability && nat_le b.quality a.quality
 
 -- the entries of three columns, place by place
 abbrev pub rows : List ℕ → List ℕ → List ℕ → List Numbers

@@ -4,7 +4,7 @@ use Rattle.std.specs.List.{list_any, enumerate_from}
 use Rattle.craft_state.specs.Craft.{AreEffects}
 use Rattle.pareto_front.specs.declared.node.Node.{Node}
 use Rattle.pareto_front.specs.declared.parts.Entry.{Entry}
-use Rattle.pareto_front.specs.Columns.{Numbers, numbers_of, reaches, NoneEnough, IsFirstEnough}
+use Rattle.pareto_front.specs.Columns.{Numbers, numbers_of, are_no_less, NoneEnough, IsFirstEnough}
 use Rattle.pareto_front.specs.Keys.{key_of}
 
 -- the part of a key, of so many parts: the bits in the middle of a product
@@ -22,7 +22,7 @@ entry_of place n = record {
 
 -- the keys are equal, no number of the first is less, and it has fewer seconds, or as many and the earlier place
 unfoldable pub outdoes : Entry → Entry → Bool
-outdoes a b = a.key == b.key && reaches a.numbers b.numbers
+outdoes a b = a.key == b.key && are_no_less a.numbers b.numbers
     && (nat_lt a.seconds b.seconds || (a.seconds == b.seconds && nat_lt a.place b.place))
 
 -- no entry of the part outdoes this one
@@ -40,7 +40,8 @@ is_before a b = nat_lt a.key b.key || (a.key == b.key && (nat_lt a.seconds b.sec
 
 -- no entry stands before one that comes before it
 pub record AreSorted (entries : List Entry) : Type 0 where
-  pub sorted : (i j : ℕ) (d : Entry) → i ≤ j → j < length entries → is_before (slice_index_or entries j d) (slice_index_or entries i d) ≡ false
+  pub sorted : (i j : ℕ) (d : Entry) → i ≤ j → j < length entries →
+      is_before (slice_index_or entries j d) (slice_index_or entries i d) ≡ false
 
 abbrev pub asks_of : Entry → List ℕ
 asks_of e = e.numbers.cp ∷ e.numbers.durability ∷ e.numbers.quality ∷ []
@@ -62,7 +63,8 @@ pub record IsEntry (level : List Node) (count : ℕ) (e : Entry) : Type 0 where
 pub record AreParts (level : List Node) (count : ℕ) (parts : List (List Entry)) : Type 0 where
   pub effects : (j : ℕ) (n : Node) → j < count → n ≡ slice_index_or level j n → AreEffects n.state.effects
   pub entries : (g : ℕ) (e : Entry) → Contains (slice_index_or parts g []) e → IsEntry level count e × (g ≡ part_of e.key (length parts))
-  pub whole : (j : ℕ) (n : Node) → j < count → n ≡ slice_index_or level j n → Contains (slice_index_or parts (part_of (key_of n.state) (length parts)) []) (entry_of j n)
+  pub whole : (j : ℕ) (n : Node) → j < count → n ≡ slice_index_or level j n →
+      Contains (slice_index_or parts (part_of (key_of n.state) (length parts)) []) (entry_of j n)
 
 abbrev pub has_place : ℕ → List ℕ → Bool
 has_place j places = list_any (λ p. p == j) places

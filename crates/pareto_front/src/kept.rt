@@ -107,7 +107,8 @@ fn find_or_add(
     key: u64,
 ) -> Result<usize, WantMemory>
     requires { length (items_of groups.old.items) ≡ length keys.old.keys }
-    ensures indexed { (states : List StateFields) → AreIndexed states keys.old.keys (items_of groups.old.items) → AreIndexed states keys.new.keys (items_of groups.new.items) }
+    ensures indexed { (states : List StateFields) → AreIndexed states keys.old.keys (items_of groups.old.items) →
+        AreIndexed states keys.new.keys (items_of groups.new.items) }
     ensures inside { IfOk result (λ index. index < length groups.new.items) }
     ensures at { IfOk result (λ index. index ≡ position_or_len (λ k. key == k) keys.new.keys) }
 {
@@ -123,7 +124,8 @@ fn find_or_add(
 // Appends to a group.
 fn push_to(groups: &mut Vec<Vec<Numbers>>, index: usize, numbers: Numbers) -> Result<(), WantMemory>
     requires { index < length groups.old.items }
-    ensures pushed { OnOk result (items_of groups.new.items ≡ slice_set (items_of groups.old.items) index (slice_index_or (items_of groups.old.items) index [] ++ numbers ∷ [])) }
+    ensures pushed { OnOk result (items_of groups.new.items ≡ slice_set (items_of groups.old.items) index
+        (slice_index_or (items_of groups.old.items) index [] ++ numbers ∷ [])) }
     ensures refused { OnErr result (items_of groups.new.items ≡ items_of groups.old.items) }
 {
     groups[index].push(numbers)?;

@@ -7,7 +7,7 @@ use craft_state::State;
 /// Progress and effects of a state as one number, which is quickly hashed and compared. Two states
 /// have the same number exactly where both are equal.
 #[tactic(auto, unfolding(crate::specs::Keys::key_of))]
-pub fn key_of(state: &State) -> u64
+pub(crate) fn key_of(state: &State) -> u64
     ensures value { result ≡ key_of state.now }
     ensures bounds { AreEffects state.now.effects }
 {

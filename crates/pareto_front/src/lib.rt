@@ -1,4 +1,4 @@
-// Nodes of a search that no other node covers, and states that are kept where none covers them.
+//! Nodes of a search that no other node covers, and states that are kept where none covers them.
 #![tactic(auto)]
 
 ghost use Rattle.std.specs.Prelude.{◌≡◌, IfOk, length};

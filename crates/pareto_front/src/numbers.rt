@@ -1,12 +1,12 @@
 ghost use Rattle.std.specs.Prelude.{◌≡◌, reverse};
 ghost use Rattle.std.specs.List.{list_any};
-ghost use Rattle.pareto_front.specs.Columns.{numbers_of, reaches};
+ghost use Rattle.pareto_front.specs.Columns.{numbers_of, are_no_less};
 
 use craft_state::State;
 
 /// What states with equal progress and effects are compared by.
 #[derive(Clone, Copy)]
-pub struct Numbers {
+pub(crate) struct Numbers {
     pub cp: u32,
     pub durability: u32,
     pub quality: u32,
@@ -25,9 +25,9 @@ impl Numbers {
     }
 
     /// Whether none of these numbers is less than the other's.
-    #[tactic(auto, unfolding(crate::specs::Columns::reaches))]
+    #[tactic(auto, unfolding(crate::specs::Columns::are_no_less))]
     pub fn reach(&self, other: Numbers) -> bool
-        ensures { result ≡ reaches self.now other }
+        ensures { result ≡ are_no_less self.now other }
     {
         self.cp >= other.cp && self.durability >= other.durability && self.quality >= other.quality
     }
@@ -35,8 +35,8 @@ impl Numbers {
 
 /// Whether some numbers of a list reach these. The latest are tried first, since a search often comes
 /// back to states near those that it kept last.
-pub fn is_reached(list: &[Numbers], numbers: Numbers) -> bool
-    ensures { result ≡ list_any (λ n. reaches n numbers) (reverse list.now) }
+pub(crate) fn is_reached(list: &[Numbers], numbers: Numbers) -> bool
+    ensures { result ≡ list_any (λ n. are_no_less n numbers) (reverse list.now) }
 {
     list.iter().rev().any(|n| n.reach(numbers))
 }

@@ -11,7 +11,7 @@ use std::alloc::Global;
 
 /// What a node is compared by, and its place in the level.
 #[derive(Clone, Copy)]
-pub struct Entry {
+pub(crate) struct Entry {
     pub key: u64,
     pub place: usize,
     pub seconds: u32,
@@ -25,7 +25,7 @@ const PART: usize = 16384;
 const SPREAD: u64 = 0x9E37_79B9_7F4A_7C15;
 
 /// The entries of the nodes of a level in parts. All entries with one key are in one part.
-pub fn divide(alloc: Global, level: &[Node]) -> Result<Vec<Vec<Entry>>, WantMemory>
+pub(crate) fn divide(alloc: Global, level: &[Node]) -> Result<Vec<Vec<Entry>>, WantMemory>
     ensures { IfOk result (λ parts. AreParts level.now (length level.now) (items_of parts.items)) }
 {
     let count = level.len() / PART + 1;
@@ -52,7 +52,8 @@ fn empty_parts(alloc: Global, count: usize, room: usize) -> Result<Vec<Vec<Entry
 // Appends to a part.
 fn push_to(parts: &mut Vec<Vec<Entry>>, index: usize, entry: Entry) -> Result<(), WantMemory>
     requires { index < length parts.old.items }
-    ensures { OnOk result (items_of parts.new.items ≡ slice_set (items_of parts.old.items) index (slice_index_or (items_of parts.old.items) index [] ++ entry ∷ [])) }
+    ensures { OnOk result (items_of parts.new.items ≡ slice_set (items_of parts.old.items) index
+        (slice_index_or (items_of parts.old.items) index [] ++ entry ∷ [])) }
 {
     parts[index].push(entry)?;
     Ok(())

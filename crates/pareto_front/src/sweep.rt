@@ -10,7 +10,7 @@ use std::alloc::{AllocError, Global};
 use std::thread::Threads;
 
 /// The places of what is kept of each part, from as many threads as there are processors.
-pub fn keep_all(
+pub(crate) fn keep_all(
     rt: &(impl Threads + Sync),
     alloc: Global,
     parts: Vec<Vec<Entry>>,

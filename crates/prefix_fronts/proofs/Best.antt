@@ -1,10 +1,12 @@
 -- The first completion that the fronts lead to is the best macro.
 use Rattle.std.proofs.Common.{◌≡◌, ◌∙◌, sym, ℕ, suc, ◌+◌, ◌-◌, ◌<◌, ◌≤◌, Bool, true, false, not, ◌&&◌, ◌||◌, ◌==◌, nat_lt, ◌⊎◌, inl, inr, List, [], ◌∷◌, ◌++◌, append_assoc, length, length-append, Option, Some, None, arith, refl, ap, subst, map, if◌then◌else◌}
+use Rattle.plain_lemmas.proofs.Places.{Contains-Among}
+use Rattle.plain_lemmas.proofs.Tests.{bool_cases, clash, and_both, and_by, eq_from, eq_to, ways}
 use Rattle.std.specs.List.{filter, list_any, All}
 use Rattle.std.proofs.lemmas.List.Elements.{All-head, All-tail}
 use Rattle.std.proofs.lemmas.Bool.Decides.{nat_tests}
 use Rattle.action_table.specs.declared.action.Action.{Action}
-use Rattle.action_table.specs.Table.{all_actions}
+use Rattle.action_table.specs.Table.{all_actions, action_seconds}
 use Rattle.craft_state.specs.Craft.{StateFields}
 use Rattle.craft_settings.specs.Ranges.{SettingsFields, AreSettings}
 use Rattle.step_rules.specs.Legality.{start_of, is_legal, is_over, is_complete}
@@ -16,12 +18,13 @@ use Rattle.dominance.proofs.Children.{is_legal-not_less}
 use Rattle.dominance.proofs.Finishing.{finishes-not_less}
 use Rattle.macro_order.specs.declared.scores.Score.{Score}
 use Rattle.step_rules.specs.Macro.{counted, IsReached}
-use Rattle.macro_order.specs.Order.{seconds_of, action_seconds, scored, score_of, is_better, precedes, IsBest}
+use Rattle.macro_order.specs.Order.{seconds_of, scored, score_of, is_better, precedes, IsBest}
 use Rattle.prefix_fronts.specs.Prefix.{Prefix, empty_prefix, extend, prefixes, dominates, is_sooner, undominated, front, finishes, finishers, completions, Test, AreLimits, IsGreatest, IsFirstFound}
-use Rattle.prefix_fronts.proofs.Lists.{Among, bool_cases, clash, Among-filter, filter-Among, Among-map, map-Among, Among-flat_map, flat_map-Among, topmost}
-use Rattle.prefix_fronts.proofs.Dominance.{and_both, and_by, dominates-irreflexive, dominates-transitive, IsNotLess-dominates, goes_on-by, is_sooner-more, step_trans, precedes-transitive}
+use Rattle.plain_lemmas.proofs.Lists.{Among, Among-filter, filter-Among, Among-map, map-Among, Among-flat_map, flat_map-Among, topmost}
+use Rattle.prefix_fronts.proofs.Dominance.{dominates-irreflexive, dominates-transitive, IsNotLess-dominates, goes_on-by, is_sooner-more}
+use Rattle.macro_order.proofs.Transitive.{step_trans, precedes-transitive}
 use Rattle.prefix_fronts.proofs.Fronts.{front-among}
-use Rattle.prefix_fronts.proofs.Members.{prefix-facts, Among-next, Among-Contains, Among-all_actions, seconds_of-snoc}
+use Rattle.prefix_fronts.proofs.Members.{prefix-facts, Among-next, Among-all_actions, seconds_of-snoc}
 
 -- how a complete macro ends
 pub record EndsAt (g : SettingsFields) (k : ℕ) (m : List Action) (last : StateFields) (seconds : ℕ) : Type 0 where
@@ -31,7 +34,7 @@ pub record EndsAt (g : SettingsFields) (k : ℕ) (m : List Action) (last : State
   pub legal : is_legal g before.state action ≡ true
   pub last_is : last ≡ step_of g before.state action
   pub is : m ≡ before.actions ++ action ∷ []
-  pub seconds_is : seconds ≡ before.seconds + action_seconds g action
+  pub seconds_is : seconds ≡ before.seconds + action_seconds action
 
 over_complete : (g : SettingsFields) (s : StateFields) → is_complete g s ≡ true → is_over g s ≡ true
 over_complete g s h = rw h refl
@@ -44,7 +47,7 @@ pub record EndsSome (g : SettingsFields) (m : List Action) (last : StateFields) 
   pub ends : EndsAt g place m last seconds
 
 ended : (g : SettingsFields) (k : ℕ) (p : Prefix) (a : Action) (r : List Action) (last : StateFields) → Among p (prefixes g k) → is_legal g p.state a ≡ true →
-    is_over g (step_of g p.state a) ≡ true → run_of g (step_of g p.state a) r ≡ Some last → EndsSome g (p.actions ++ a ∷ r) last (p.seconds + seconds_of g (a ∷ r))
+    is_over g (step_of g p.state a) ≡ true → run_of g (step_of g p.state a) r ≡ Some last → EndsSome g (p.actions ++ a ∷ r) last (p.seconds + seconds_of (a ∷ r))
 ended g k p a [] last here legal over ran = record {
   place = k;
   ends = record { before = p; among = here; action = a; legal = legal; last_is = cc; is = refl; seconds_is = omega arith };
@@ -59,7 +62,7 @@ ended g k p a (b ∷ r) last here legal over ran =
 
 -- the last action of a run that completes
 pub run-ends : (g : SettingsFields) (k : ℕ) (p : Prefix) (r : List Action) (last : StateFields) → Among p (prefixes g k) → is_over g p.state ≡ false →
-    run_of g p.state r ≡ Some last → is_complete g last ≡ true → EndsSome g (p.actions ++ r) last (p.seconds + seconds_of g r)
+    run_of g p.state r ≡ Some last → is_complete g last ≡ true → EndsSome g (p.actions ++ r) last (p.seconds + seconds_of r)
 run-ends g k p [] last here live ran full =
     let e : p.state ≡ last = cc in
     absurd (clash (over_complete g last full) (ap (is_over g) (sym e) ∙ live))
@@ -74,8 +77,8 @@ run-ends g k p (a ∷ r) last here live ran full =
             | inr goes ↦
                 let more = run-ends g (suc k) (extend g p a) r last (Among-next g k p a here (goes_on-by g p.state a legal goes)) goes ran' full in
                 let joined : (p.actions ++ a ∷ []) ++ r ≡ p.actions ++ a ∷ r = append_assoc p.actions (a ∷ []) r in
-                let summed : p.seconds + action_seconds g a + seconds_of g r ≡ p.seconds + seconds_of g (a ∷ r) = omega arith in
-                subst (λ (m : List Action). EndsSome g m last (p.seconds + seconds_of g (a ∷ r))) joined
+                let summed : p.seconds + action_seconds a + seconds_of r ≡ p.seconds + seconds_of (a ∷ r) = omega arith in
+                subst (λ (m : List Action). EndsSome g m last (p.seconds + seconds_of (a ∷ r))) joined
                 (subst (λ (n : ℕ). EndsSome g ((p.actions ++ a ∷ []) ++ r) last n) summed more)
             | inl over ↦ ended g k p a r last here legal over ran'
           ]
@@ -88,37 +91,31 @@ pub record ScoreSays (g : SettingsFields) (m : List Action) (o : Option StateFie
   pub full : is_complete g last ≡ true
   pub quality : s.quality ≡ counted g last
   pub steps : s.steps ≡ length m
-  pub seconds : s.seconds ≡ seconds_of g m
+  pub seconds : s.seconds ≡ seconds_of m
 
 pub score-says : (g : SettingsFields) (m : List Action) (o : Option StateFields) (s : Score) → scored g m o ≡ Some s → ScoreSays g m o s
 score-says g m None s h = absurd (cc h)
 score-says g m (Some last) s h =
     elim (bool_cases (is_complete g last)) [
       | inl full ↦
-          let is : Some (record { quality = counted g last; steps = length m; seconds = seconds_of g m }) ≡ Some s = sym (ap (λ b. if b then Some (record { quality = counted g last; steps = length m; seconds = seconds_of g m }) else None) full) ∙ h in
-          let same : (record { quality = counted g last; steps = length m; seconds = seconds_of g m }) ≡ s = cc in
+          let is : Some (record { quality = counted g last; steps = length m; seconds = seconds_of m }) ≡ Some s = sym (ap (λ b. if b then Some (record { quality = counted g last; steps = length m; seconds = seconds_of m }) else None) full) ∙ h in
+          let same : (record { quality = counted g last; steps = length m; seconds = seconds_of m }) ≡ s = cc in
           record { last = last; ran = refl; full = full; quality = sym (ap (λ (t : Score). t.quality) same); steps = sym (ap (λ (t : Score). t.steps) same); seconds = sym (ap (λ (t : Score). t.seconds) same) }
       | inr other ↦
-          let none : scored g m (Some last) ≡ None = ap (λ b. if b then Some (record { quality = counted g last; steps = length m; seconds = seconds_of g m }) else None) other in
+          let none : scored g m (Some last) ≡ None = ap (λ b. if b then Some (record { quality = counted g last; steps = length m; seconds = seconds_of m }) else None) other in
           absurd (cc (none, h))
     ]
 
 -- the score of one more action
 pub score-extend : (g : SettingsFields) → AreSettings g → (k : ℕ) (q : Prefix) (a : Action) → Among q (prefixes g k) → is_legal g q.state a ≡ true → is_complete g (step_of g q.state a) ≡ true →
-    score_of g (extend g q a).actions ≡ Some (record { quality = counted g (step_of g q.state a); steps = length (extend g q a).actions; seconds = seconds_of g (extend g q a).actions })
+    score_of g (extend g q a).actions ≡ Some (record { quality = counted g (step_of g q.state a); steps = length (extend g q a).actions; seconds = seconds_of (extend g q a).actions })
 score-extend g settings k q a here legal full =
     let ran = run_of-snoc g (start_of g) q.state q.actions a (prefix-facts g settings k q here).ran legal in
     ap (scored g (q.actions ++ a ∷ [])) ran
-    ∙ ap (λ b. if b then Some (record { quality = counted g (step_of g q.state a); steps = length (q.actions ++ a ∷ []); seconds = seconds_of g (q.actions ++ a ∷ []) }) else None) full
-
-eq_test : (a b : ℕ) → a ≡ b → (a == b) ≡ true
-eq_test a b h = grind (arith, nat_tests)
-
-pub eq_from : (a b : ℕ) → (a == b) ≡ true → a ≡ b
-eq_from a b h = grind (arith, nat_tests)
+    ∙ ap (λ b. if b then Some (record { quality = counted g (step_of g q.state a); steps = length (q.actions ++ a ∷ []); seconds = seconds_of (q.actions ++ a ∷ []) }) else None) full
 
 pub finishes-by : (g : SettingsFields) (target : ℕ) (s : StateFields) (a : Action) → is_legal g s a ≡ true → is_complete g (step_of g s a) ≡ true → counted g (step_of g s a) ≡ target → finishes g target s a ≡ true
-finishes-by g target s a legal full quality = and_by _ _ legal (and_by _ _ full (eq_test _ _ quality))
+finishes-by g target s a legal full quality = and_by _ _ legal (and_by _ _ full (eq_to _ _ quality))
 
 pub record FinishesFrom (g : SettingsFields) (target : ℕ) (kept : List Prefix) (c : Prefix) : Type 0 where
   pub from : Prefix
@@ -198,7 +195,7 @@ some-Among (y ∷ xs) x h = omega arith
 pub better_quality : (q q' : ℕ) (r : Bool) → q' < q → (nat_lt q' q || r) ≡ true
 better_quality q q' r h = grind (arith, nat_tests)
 
-better_steps : (q q' s s' : ℕ) (r : Bool) → q ≡ q' → s < s' → (nat_lt q' q || (q == q' && (nat_lt s s' || r))) ≡ true
+pub better_steps : (q q' s s' : ℕ) (r : Bool) → q ≡ q' → s < s' → (nat_lt q' q || (q == q' && (nat_lt s s' || r))) ≡ true
 better_steps q q' s s' r h k = grind (arith, nat_tests)
 
 pub better_sooner : (q q' s s' : ℕ) (r : Bool) → q ≡ q' → s ≡ s' → r ≡ true → (nat_lt q' q || (q == q' && (nat_lt s s' || (s == s' && r)))) ≡ true
@@ -209,9 +206,6 @@ sooner_trans p q r h k = step_trans p.seconds q.seconds r.seconds _ _ _ (precede
 
 pub at_most : (a b : ℕ) → a ≤ b → (a < b) ⊎ (a ≡ b)
 at_most a b h = grind arith
-
-ways : (a b : ℕ) → (a < b) ⊎ ((a ≡ b) ⊎ (b < a))
-ways a b = grind arith
 
 nothing_in : (g : SettingsFields) (c : Prefix) (xs : List Prefix) → xs ≡ [] → Among c xs → ⊥
 nothing_in g c xs e h = subst (λ ys. Among c ys) e h
@@ -232,26 +226,26 @@ Among-live g settings = (prefix-facts g settings 0 (empty_prefix g) (Among-start
 -- of two macros of one quality and length
 finish : (g : SettingsFields) (p : Prefix) (a : Action) (found : Prefix) (m : List Action) (b : Score) (q : Prefix) (x : Action) (target n : ℕ) →
     extend g p a ≡ found → m ≡ q.actions ++ x ∷ [] → counted g (step_of g p.state a) ≡ target → b.quality ≡ target →
-    seconds_of g (p.actions ++ a ∷ []) ≡ p.seconds + action_seconds g a → b.seconds ≡ q.seconds + action_seconds g x → length (p.actions ++ a ∷ []) ≡ n → b.steps ≡ n →
+    seconds_of (p.actions ++ a ∷ []) ≡ p.seconds + action_seconds a → b.seconds ≡ q.seconds + action_seconds x → length (p.actions ++ a ∷ []) ≡ n → b.steps ≡ n →
     (found ≡ extend g q x) ⊎ (is_sooner found (extend g q x) ≡ true) →
-    ((extend g p a).actions ≡ m) ⊎ (is_better (record { quality = counted g (step_of g p.state a); steps = length (extend g p a).actions; seconds = seconds_of g (extend g p a).actions }) (extend g p a).actions b m ≡ true)
+    ((extend g p a).actions ≡ m) ⊎ (is_better (record { quality = counted g (step_of g p.state a); steps = length (extend g p a).actions; seconds = seconds_of (extend g p a).actions }) (extend g p a).actions b m ≡ true)
 finish g p a found m b q x target n is m_is mine his took took' long long' (inl e) = inl (ap (λ (z : Prefix). z.actions) (is ∙ e) ∙ sym m_is)
 finish g p a found m b q x target n is m_is mine his took took' long long' (inr h) =
     let sooner : is_sooner (extend g p a) (extend g q x) ≡ true = subst (λ (z : Prefix). is_sooner z (extend g q x) ≡ true) (sym is) h in
-    let r : (nat_lt (seconds_of g (p.actions ++ a ∷ [])) b.seconds || (seconds_of g (p.actions ++ a ∷ []) == b.seconds && precedes (p.actions ++ a ∷ []) m)) ≡ true = rw (took, took', m_is) sooner in
+    let r : (nat_lt (seconds_of (p.actions ++ a ∷ [])) b.seconds || (seconds_of (p.actions ++ a ∷ []) == b.seconds && precedes (p.actions ++ a ∷ []) m)) ≡ true = rw (took, took', m_is) sooner in
     inr (better_sooner _ _ _ _ _ (mine ∙ sym his) (long ∙ sym long') r)
 
 pub first-best : (g : SettingsFields) (target : ℕ) (passes : ℕ → StateFields → Bool) (n : ℕ) (found : Prefix) →
     AreSettings g → AreLimits g target passes → IsGreatest g target → IsFirstFound g target passes n found → IsBest g found.actions
 unfolding front
 first-best g target passes n found settings limits greatest first =
-    let here = Among-Contains _ found first.among in
+    let here = Contains-Among _ found first.among in
     let f = finishers-Among g target _ found here in
     let at : Among f.from (prefixes g (n - 1)) = (filter-Among (λ p. passes (n - (n - 1)) p.state && undominated (prefixes g (n - 1)) p) f.from (prefixes g (n - 1)) f.among).0 in
     let is = prefix-facts g settings (n - 1) f.from at in
-    let mine : Score = record { quality = counted g (step_of g f.from.state f.action); steps = length (extend g f.from f.action).actions; seconds = seconds_of g (extend g f.from f.action).actions } in
+    let mine : Score = record { quality = counted g (step_of g f.from.state f.action); steps = length (extend g f.from f.action).actions; seconds = seconds_of (extend g f.from f.action).actions } in
     let long : length (f.from.actions ++ f.action ∷ []) ≡ n = omega (arith, length-append f.from.actions (f.action ∷ []), is.length, first.some) in
-    let took : seconds_of g (f.from.actions ++ f.action ∷ []) ≡ f.from.seconds + action_seconds g f.action = seconds_of-snoc g f.from.actions f.action ∙ ap (λ s. s + action_seconds g f.action) (sym is.seconds) in
+    let took : seconds_of (f.from.actions ++ f.action ∷ []) ≡ f.from.seconds + action_seconds f.action = seconds_of-snoc f.from.actions f.action ∙ ap (λ s. s + action_seconds f.action) (sym is.seconds) in
     let acts : (extend g f.from f.action).actions ≡ found.actions = ap (λ (p : Prefix). p.actions) f.is in
     subst (λ (m : List Action). IsBest g m) acts (record {
       score = mine;
@@ -278,7 +272,7 @@ first-best g target passes n found settings limits greatest first =
                         let among : Among found'.top (finishers g target (front g passes n (n - 1))) = subst (λ k. Among found'.top (finishers g target (front g passes n k))) place (subst (λ j. Among found'.top (finishers g target (front g passes j ends.place))) (sym equal) found'.among) in
                         let soonest : (found ≡ found'.top) ⊎ (is_sooner found found'.top ≡ true) = All-Among (λ q. (found ≡ q) ⊎ (is_sooner found q ≡ true)) _ found'.top first.soonest among in
                         let same_or : (found ≡ extend g e.before e.action) ⊎ (is_sooner found (extend g e.before e.action) ≡ true) = joined found found'.top (extend g e.before e.action) soonest found'.as_good in
-                        finish g f.from f.action found m b e.before e.action target n f.is e.is f.quality same (took) (says.seconds ∙ ap (seconds_of g) e.is ∙ seconds_of-snoc g e.before.actions e.action ∙ ap (λ s. s + action_seconds g e.action) (sym facts.seconds)) long (steps ∙ sym equal) same_or
+                        finish g f.from f.action found m b e.before e.action target n f.is e.is f.quality same (took) (says.seconds ∙ ap seconds_of e.is ∙ seconds_of-snoc e.before.actions e.action ∙ ap (λ s. s + action_seconds e.action) (sym facts.seconds)) long (steps ∙ sym equal) same_or
                   ]
                 ]
           ];

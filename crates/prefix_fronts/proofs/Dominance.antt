@@ -1,5 +1,6 @@
 -- Dominance is a strict order that passes to children.
 use Rattle.std.proofs.Common.{◌≡◌, ◌∙◌, ℕ, ◌+◌, ◌≤◌, Bool, true, false, not, ◌&&◌, ◌||◌, ◌==◌, nat_lt, nat_le, List, [], ◌∷◌, ◌++◌, length, arith, refl, ap}
+use Rattle.plain_lemmas.proofs.Tests.{eq_from, and_both, and_by, le_from, le_to, not_true}
 use Rattle.std.proofs.lemmas.Bool.Decides.{nat_tests}
 use Rattle.action_table.specs.declared.action.Action.{Action}
 use Rattle.action_table.specs.Table.{number_of}
@@ -14,15 +15,9 @@ use Rattle.step_rules.specs.Legality.{is_legal, is_over}
 use Rattle.step_rules.specs.Step.{step_of}
 use Rattle.craft_state.specs.NotLess.{IsNotLess, same_bool, same_effects, is_not_less}
 use Rattle.macro_order.specs.Order.{precedes}
+use Rattle.macro_order.proofs.Transitive.{step_trans, precedes-transitive}
 use Rattle.dominance.proofs.Children.{is_legal-not_less, IsNotLess-step, also_live}
 use Rattle.prefix_fronts.specs.Prefix.{Prefix, extend, goes_on, is_sooner, dominates}
-
-pub and_both : (x y : Bool) → (x && y) ≡ true → (x ≡ true) × (y ≡ true)
-and_both true y h = (refl, h)
-and_both false y h = cc
-
-pub and_by : (x y : Bool) → x ≡ true → y ≡ true → (x && y) ≡ true
-and_by x y h k = rw (h, k) refl
 
 pub combo_same : (a b : Combo) → combo_number a ≡ combo_number b → a ≡ b
 combo_same NoCombo NoCombo h = refl
@@ -56,9 +51,6 @@ bool_same-refl : (a : Bool) → same_bool a a ≡ true
 bool_same-refl true = refl
 bool_same-refl false = refl
 
-number_same : (a b : ℕ) → (a == b) ≡ true → a ≡ b
-number_same a b h = grind (arith, nat_tests)
-
 pub same_number : (a : ℕ) → (a == a) ≡ true
 same_number a = grind (arith, nat_tests)
 
@@ -74,15 +66,15 @@ effects_same a b h =
     let h3 = and_both _ _ h4.0 in
     let h2 = and_both _ _ h3.0 in
     let h1 = and_both _ _ h2.0 in
-    let iq = number_same _ _ h1.0 in
-    let waste = number_same _ _ h1.1 in
-    let innovation = number_same _ _ h2.1 in
-    let veneration = number_same _ _ h3.1 in
-    let strides = number_same _ _ h4.1 in
-    let muscle = number_same _ _ h5.1 in
-    let manipulation = number_same _ _ h6.1 in
-    let combo = combo_same _ _ (number_same _ _ h7.1) in
-    let perfection = perfection_same _ _ (number_same _ _ h8.1) in
+    let iq = eq_from _ _ h1.0 in
+    let waste = eq_from _ _ h1.1 in
+    let innovation = eq_from _ _ h2.1 in
+    let veneration = eq_from _ _ h3.1 in
+    let strides = eq_from _ _ h4.1 in
+    let muscle = eq_from _ _ h5.1 in
+    let manipulation = eq_from _ _ h6.1 in
+    let combo = combo_same _ _ (eq_from _ _ h7.1) in
+    let perfection = perfection_same _ _ (eq_from _ _ h8.1) in
     let first = bool_same _ _ h9.1 in
     λ i. record {
       iq = iq i;
@@ -102,12 +94,6 @@ unfolding same_effects
 effects_same-refl a =
     rw (same_number a.iq, same_number a.waste, same_number a.innovation, same_number a.veneration, same_number a.strides, same_number a.muscle, same_number a.manipulation, same_number (combo_number a.combo), same_number (perfection_number a.perfection)) (bool_same-refl a.first)
 
-le_test : (a b : ℕ) → nat_le a b ≡ true → a ≤ b
-le_test a b h = grind (arith, nat_tests)
-
-test_le : (a b : ℕ) → a ≤ b → nat_le a b ≡ true
-test_le a b h = grind (arith, nat_tests)
-
 pub IsNotLess-from : (a b : StateFields) → is_not_less a b ≡ true → IsNotLess a b
 unfolding is_not_less
 IsNotLess-from a b h =
@@ -116,11 +102,11 @@ IsNotLess-from a b h =
     let h2 = and_both _ _ h3.0 in
     let h1 = and_both _ _ h2.0 in
     record {
-      progress = number_same _ _ h1.0;
+      progress = eq_from _ _ h1.0;
       effects = effects_same _ _ h1.1;
-      cp = le_test _ _ h2.1;
-      durability = le_test _ _ h3.1;
-      quality = le_test _ _ h4.1;
+      cp = le_from _ _ h2.1;
+      durability = le_from _ _ h3.1;
+      quality = le_from _ _ h4.1;
     }
 
 pub is_not_less-by : (a b : StateFields) → IsNotLess a b → is_not_less a b ≡ true
@@ -128,7 +114,7 @@ unfolding is_not_less
 is_not_less-by a b h =
     let progress : (a.progress == b.progress) ≡ true = rw h.progress (same_number b.progress) in
     let effects : same_effects a.effects b.effects ≡ true = rw h.effects (effects_same-refl b.effects) in
-    rw (progress, effects, test_le _ _ h.cp, test_le _ _ h.durability, test_le _ _ h.quality) refl
+    rw (progress, effects, le_to _ _ h.cp, le_to _ _ h.durability, le_to _ _ h.quality) refl
 
 IsNotLess-trans : (a b c : StateFields) → IsNotLess a b → IsNotLess b c → IsNotLess a c
 IsNotLess-trans a b c h k = record {
@@ -143,15 +129,6 @@ IsNotLess-trans a b c h k = record {
 pub precedes-irreflexive : (m : List Action) → precedes m m ≡ false
 precedes-irreflexive [] = refl
 precedes-irreflexive (a ∷ m) = let h = precedes-irreflexive m in grind (arith, nat_tests, h)
-
-pub step_trans : (x y z : ℕ) (p q r : Bool) → (p ≡ true → q ≡ true → r ≡ true) → (nat_lt x y || (x == y && p)) ≡ true → (nat_lt y z || (y == z && q)) ≡ true → (nat_lt x z || (x == z && r)) ≡ true
-step_trans x y z p q r t h k = grind (arith, nat_tests, t)
-
-pub precedes-transitive : (l m n : List Action) → precedes l m ≡ true → precedes m n ≡ true → precedes l n ≡ true
-precedes-transitive [] m n h k = cc
-precedes-transitive (a ∷ l) [] n h k = cc
-precedes-transitive (a ∷ l) (b ∷ m) [] h k = cc
-precedes-transitive (a ∷ l) (b ∷ m) (c ∷ n) h k = step_trans (number_of a) (number_of b) (number_of c) _ _ _ (precedes-transitive l m n) h k
 
 pub precedes-more : (m n : List Action) (a : Action) → length m ≡ length n → precedes (m ++ a ∷ []) (n ++ a ∷ []) ≡ precedes m n
 precedes-more [] [] a same = precedes-irreflexive (a ∷ [])
@@ -185,10 +162,6 @@ sooner_more x y d p q same h = grind (arith, nat_tests)
 
 pub is_sooner-more : (g : SettingsFields) (p q : Prefix) (a : Action) → length p.actions ≡ length q.actions → is_sooner p q ≡ true → is_sooner (extend g p a) (extend g q a) ≡ true
 is_sooner-more g p q a same h = sooner_more p.seconds q.seconds _ _ _ (precedes-more p.actions q.actions a same) h
-
-not_true : (b : Bool) → not b ≡ true → b ≡ false
-not_true true h = cc
-not_true false h = refl
 
 pub goes_on-parts : (g : SettingsFields) (s : StateFields) (a : Action) → goes_on g s a ≡ true → (is_legal g s a ≡ true) × (is_over g (step_of g s a) ≡ false)
 goes_on-parts g s a h = let parts = and_both _ _ h in (parts.0, not_true _ parts.1)

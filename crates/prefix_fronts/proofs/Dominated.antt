@@ -1,5 +1,7 @@
 -- A dominated prefix is no prefix of the best macro.
 use Rattle.std.proofs.Common.{◌≡◌, ◌∙◌, sym, ℕ, zero, suc, ◌+◌, ◌-◌, ◌<◌, ◌≤◌, Bool, true, not, ◌&&◌, ◌||◌, ◌==◌, nat_lt, inl, inr, List, [], ◌∷◌, ◌++◌, length, length-append, take, drop, Some, None, arith, refl, ap, subst, if◌then◌else◌}
+use Rattle.plain_lemmas.proofs.Places.{Contains-Among, Among-Contains}
+use Rattle.plain_lemmas.proofs.Tests.{bool_cases, and_both}
 use Rattle.std.specs.List.{list_any}
 use Rattle.std.proofs.lemmas.List.{take-append-drop, take-append-le, take_all}
 use Rattle.std.proofs.lemmas.Bool.Decides.{nat_tests}
@@ -18,10 +20,10 @@ use Rattle.dominance.proofs.Finishing.{finishes-not_less}
 use Rattle.macro_order.specs.declared.scores.Score.{Score}
 use Rattle.macro_order.specs.Order.{seconds_of, scored, score_of, is_better, precedes, IsBest}
 use Rattle.macro_order.proofs.Total.{better_not}
-use Rattle.prefix_fronts.specs.Prefix.{Prefix, empty_prefix, extend, goes_on, children, prefixes, dominates, DominatesAt, undominated, survivors, IsIn}
-use Rattle.prefix_fronts.proofs.Lists.{Among, bool_cases, Among-filter, flat_map-Among, any-Among}
-use Rattle.prefix_fronts.proofs.Dominance.{and_both, IsNotLess-dominates, child_dominated}
-use Rattle.prefix_fronts.proofs.Members.{prefix-facts, Among-next, Among-Contains, Contains-from, children-Among}
+use Rattle.prefix_fronts.specs.Prefix.{Prefix, empty_prefix, extend, goes_on, children, prefixes, dominates, DominatesAt, undominated, survivors, IsListOf}
+use Rattle.plain_lemmas.proofs.Lists.{Among, Among-filter, flat_map-Among, any-Among}
+use Rattle.prefix_fronts.proofs.Dominance.{IsNotLess-dominates, child_dominated}
+use Rattle.prefix_fronts.proofs.Members.{prefix-facts, Among-next, children-Among}
 use Rattle.prefix_fronts.proofs.Sorted.{step_or}
 use Rattle.prefix_fronts.proofs.Best.{no_legal_when_over, score-says, counted_le, better_quality, better_sooner, at_most, run-ends, Among-start, Among-live}
 
@@ -29,13 +31,13 @@ use Rattle.prefix_fronts.proofs.Best.{no_legal_when_over, score-says, counted_le
 pub same-child : (g : SettingsFields) (k : ℕ) (p q : Prefix) (action : Action) → AreSettings g → DominatesAt g k p q → goes_on g q.state action ≡ true →
     DominatesAt g (suc k) (extend g p action) (extend g q action)
 same-child g k p q action settings h go =
-    let mp = Among-Contains _ p h.first in
-    let mq = Among-Contains _ q h.second in
+    let mp = Contains-Among _ p h.first in
+    let mq = Contains-Among _ q h.second in
     let same : length p.actions ≡ length q.actions = (prefix-facts g settings k p mp).length ∙ sym (prefix-facts g settings k q mq).length in
     let d = child_dominated g p q action same h.over go in
     record {
-      first = Contains-from _ _ (Among-next g k p action mp d.0);
-      second = Contains-from _ _ (Among-next g k q action mq go);
+      first = Among-Contains _ _ (Among-next g k p action mp d.0);
+      second = Among-Contains _ _ (Among-next g k q action mq go);
       over = d.1;
     }
 
@@ -63,7 +65,7 @@ runs-last g a b x (y ∷ r) last h over ran full =
     ]
 
 -- what completes from a state completes from one that isn't less
-runs-not_less : (g : SettingsFields) (a b : StateFields) (r : List Action) (last : StateFields) → IsNotLess a b →
+pub runs-not_less : (g : SettingsFields) (a b : StateFields) (r : List Action) (last : StateFields) → IsNotLess a b →
     run_of g b r ≡ Some last → is_complete g last ≡ true → RunsTo g a r last.quality
 runs-not_less g a b [] last h ran full =
     let e : b ≡ last = cc in
@@ -85,16 +87,16 @@ runs-not_less g a b (x ∷ r) last h ran full =
           record { last = more.last; ran = first ∙ more.ran; full = more.full; quality = more.quality }
     ]
 
-seconds_of-append : (g : SettingsFields) (m r : List Action) → seconds_of g (m ++ r) ≡ seconds_of g m + seconds_of g r
-seconds_of-append g [] r = omega arith
-seconds_of-append g (a ∷ m) r = let rest = seconds_of-append g m r in omega (arith, rest)
+pub seconds_of-append : (m r : List Action) → seconds_of (m ++ r) ≡ seconds_of m + seconds_of r
+seconds_of-append [] r = omega arith
+seconds_of-append (a ∷ m) r = let rest = seconds_of-append m r in omega (arith, rest)
 
-precedes-append : (m n r : List Action) → precedes m n ≡ true → precedes (m ++ r) (n ++ r) ≡ true
+pub precedes-append : (m n r : List Action) → precedes m n ≡ true → precedes (m ++ r) (n ++ r) ≡ true
 precedes-append [] n r h = cc
 precedes-append (a ∷ m) [] r h = cc
 precedes-append (a ∷ m) (b ∷ n) r h = step_or (nat_lt (number_of a) (number_of b)) (number_of a == number_of b) _ _ (precedes-append m n r) h
 
-sooner_still : (x y d : ℕ) (p q : Bool) → (p ≡ true → q ≡ true) → (nat_lt x y || (x == y && p)) ≡ true → (nat_lt (x + d) (y + d) || (x + d == y + d && q)) ≡ true
+pub sooner_still : (x y d : ℕ) (p q : Bool) → (p ≡ true → q ≡ true) → (nat_lt x y || (x == y && p)) ≡ true → (nat_lt (x + d) (y + d) || (x + d == y + d && q)) ≡ true
 sooner_still x y d p q t h = grind (arith, nat_tests, t)
 
 some-same : (s t : Score) → Some s ≡ Some t → s ≡ t
@@ -113,17 +115,17 @@ never-dominated g m k p q settings best mp mq cut h =
     let says = score-says g m _ best.score best.completes in
     let ran : run_of g q.state r ≡ Some says.last = sym (run_of-append g (start_of g) q.state q.actions r fq.ran) ∙ ap (run_of g (start_of g)) split ∙ says.ran in
     let other = runs-not_less g p.state q.state r says.last (IsNotLess-dominates p q h) ran says.full in
-    let mine : Score = record { quality = counted g other.last; steps = length n; seconds = seconds_of g n } in
+    let mine : Score = record { quality = counted g other.last; steps = length n; seconds = seconds_of n } in
     let completes : score_of g n ≡ Some mine =
     ap (scored g n) (run_of-append g (start_of g) p.state p.actions r fp.ran ∙ other.ran) ∙ ap (λ b. if b then Some mine else None) other.full in
     let more : best.score.quality ≤ mine.quality = let c = counted_le g says.last other.last other.quality in omega (arith, c, says.quality) in
     let steps : mine.steps ≡ best.score.steps = omega (arith, says.steps, ap length split, length-append p.actions r, length-append q.actions r, fp.length, fq.length) in
-    let took : mine.seconds ≡ p.seconds + seconds_of g r = seconds_of-append g p.actions r ∙ ap (λ s. s + seconds_of g r) (sym fp.seconds) in
-    let took_best : best.score.seconds ≡ q.seconds + seconds_of g r =
-    says.seconds ∙ ap (seconds_of g) (sym split) ∙ seconds_of-append g q.actions r ∙ ap (λ s. s + seconds_of g r) (sym fq.seconds) in
-    let still = sooner_still p.seconds q.seconds (seconds_of g r) (precedes p.actions q.actions) (precedes n (q.actions ++ r)) (precedes-append p.actions q.actions r) (and_both _ _ h).1 in
+    let took : mine.seconds ≡ p.seconds + seconds_of r = seconds_of-append p.actions r ∙ ap (λ s. s + seconds_of r) (sym fp.seconds) in
+    let took_best : best.score.seconds ≡ q.seconds + seconds_of r =
+    says.seconds ∙ ap seconds_of (sym split) ∙ seconds_of-append q.actions r ∙ ap (λ s. s + seconds_of r) (sym fq.seconds) in
+    let still = sooner_still p.seconds q.seconds (seconds_of r) (precedes p.actions q.actions) (precedes n (q.actions ++ r)) (precedes-append p.actions q.actions r) (and_both _ _ h).1 in
     let sooner : (nat_lt mine.seconds best.score.seconds || (mine.seconds == best.score.seconds && precedes n m)) ≡ true =
-    rw (took, took_best) (subst (λ (l : List Action). (nat_lt (p.seconds + seconds_of g r) (q.seconds + seconds_of g r) || (p.seconds + seconds_of g r == q.seconds + seconds_of g r && precedes n l)) ≡ true) split still) in
+    rw (took, took_best) (subst (λ (l : List Action). (nat_lt (p.seconds + seconds_of r) (q.seconds + seconds_of r) || (p.seconds + seconds_of r == q.seconds + seconds_of r && precedes n l)) ≡ true) split still) in
     let wins : is_better mine n best.score m ≡ true = elim (at_most best.score.quality mine.quality more) [
       | inl less ↦ better_quality mine.quality best.score.quality _ less
       | inr same ↦ better_sooner _ _ _ _ _ (sym same) steps sooner
@@ -166,7 +168,7 @@ starts-with g (suc d) k j p settings e h =
     let cut : take k (f.0.actions ++ by.action ∷ []) ≡ take k f.0.actions = take-append-le k f.0.actions (by.action ∷ []) (omega (arith, long)) in
     record { prefix = rest.prefix; among = rest.among; is = ap (λ (q : Prefix). take k q.actions) (sym by.is) ∙ cut ∙ rest.is }
 
-pub best-survives : (g : SettingsFields) (m : List Action) (k : ℕ) → AreSettings g → IsBest g m → k < length m → IsIn (take k m) (survivors (prefixes g k))
+pub best-survives : (g : SettingsFields) (m : List Action) (k : ℕ) → AreSettings g → IsBest g m → k < length m → IsListOf (take k m) (survivors (prefixes g k))
 best-survives g m k settings best below =
     let says = score-says g m _ best.score best.completes in
     let ends = run-ends g 0 (empty_prefix g) m says.last (Among-start g) (Among-live g settings) says.ran says.full in
@@ -178,4 +180,4 @@ best-survives g m k settings best below =
     let cut : take k (e.before.actions ++ e.action ∷ []) ≡ take k e.before.actions = take-append-le k e.before.actions (e.action ∷ []) (omega (arith, long, steps, below)) in
     let is : take k m ≡ r.prefix.actions = ap (take k) e.is ∙ cut ∙ r.is in
     let free = best-undominated g m k r.prefix settings best r.among (sym is) in
-    (r.prefix, Contains-from _ r.prefix (Among-filter (undominated (prefixes g k)) r.prefix (prefixes g k) r.among free), is)
+    (r.prefix, Among-Contains _ r.prefix (Among-filter (undominated (prefixes g k)) r.prefix (prefixes g k) r.among free), is)

@@ -1,17 +1,14 @@
 -- The undominated passing children of a front are the next front.
 use Rattle.std.proofs.Common.{◌≡◌, ◌∙◌, sym, ℕ, suc, ◌+◌, ◌-◌, ◌<◌, Bool, true, false, cond, not, ◌&&◌, inl, inr, List, [], length, arith, refl, ap, subst}
+use Rattle.plain_lemmas.proofs.Tests.{bool_cases, clash, same_answer, and_both, and_by, not_true}
 use Rattle.std.specs.List.{filter, flat_map, list_any}
 use Rattle.action_table.specs.declared.action.Action.{Action}
 use Rattle.craft_state.specs.Craft.{StateFields}
 use Rattle.craft_settings.specs.Ranges.{SettingsFields, AreSettings}
 use Rattle.prefix_fronts.specs.Prefix.{Prefix, extend, goes_on, children, prefixes, dominates, undominated, front, AreLimits}
-use Rattle.prefix_fronts.proofs.Lists.{Among, bool_cases, clash, Among-filter, filter-Among, Among-flat_map, flat_map-Among, any-Among, Among-any, filter-same, filter-none, filter-filter, filter-flat_map, same_answer, topmost}
-use Rattle.prefix_fronts.proofs.Dominance.{and_both, and_by, dominates-irreflexive, dominates-transitive, IsNotLess-dominates, child_dominated, goes_on-parts}
+use Rattle.plain_lemmas.proofs.Lists.{Among, Among-filter, filter-Among, Among-flat_map, flat_map-Among, any-Among, Among-any, filter-same, filter-none, filter-filter, filter-flat_map, topmost}
+use Rattle.prefix_fronts.proofs.Dominance.{dominates-irreflexive, dominates-transitive, IsNotLess-dominates, child_dominated, goes_on-parts}
 use Rattle.prefix_fronts.proofs.Members.{children-Among, prefix-facts, Among-next}
-
-free_of : (b : Bool) → not b ≡ true → b ≡ false
-free_of true h = cc
-free_of false h = refl
 
 -- a child of a dominated prefix is dominated, so the parent of an undominated one is undominated
 pub undominated-parent : (g : SettingsFields) → AreSettings g → (k : ℕ) (p : Prefix) (a : Action) → Among p (prefixes g k) → goes_on g p.state a ≡ true →
@@ -24,7 +21,7 @@ undominated-parent g settings k p a here go free =
           let same : length w.0.actions ≡ length p.actions = (prefix-facts g settings k w.0 w.1).length ∙ sym (prefix-facts g settings k p here).length in
           let d = child_dominated g w.0 p a same w.2 go in
           let more = Among-next g k w.0 a w.1 d.0 in
-          absurd (clash (Among-any (λ q. dominates q (extend g p a)) (extend g w.0 a) (prefixes g (suc k)) more d.1) (free_of _ free))
+          absurd (clash (Among-any (λ q. dominates q (extend g p a)) (extend g w.0 a) (prefixes g (suc k)) more d.1) (not_true _ free))
     ]
 
 -- the parent of a survivor is a survivor

@@ -1,13 +1,14 @@
 -- The proper prefixes of what the fronts lead to are in the fronts.
 use Rattle.std.proofs.Common.{◌≡◌, ◌∙◌, sym, ℕ, zero, suc, ◌+◌, ◌-◌, ◌<◌, Bool, true, ◌&&◌, List, [], ◌∷◌, ◌++◌, take, arith, refl, ap, subst}
+use Rattle.plain_lemmas.proofs.Places.{Contains-Among, Among-Contains}
 use Rattle.std.specs.List.{Contains}
 use Rattle.std.proofs.lemmas.List.{take_all, take-append-le}
 use Rattle.action_table.specs.declared.action.Action.{Action}
 use Rattle.craft_state.specs.Craft.{StateFields}
 use Rattle.craft_settings.specs.Ranges.{SettingsFields, AreSettings}
-use Rattle.prefix_fronts.specs.Prefix.{Prefix, extend, children, prefixes, undominated, front, completions, IsIn, AreLimits}
-use Rattle.prefix_fronts.proofs.Lists.{Among, Among-filter, filter-Among, flat_map-Among}
-use Rattle.prefix_fronts.proofs.Members.{Among-Contains, Contains-from, prefix-facts, children-Among}
+use Rattle.prefix_fronts.specs.Prefix.{Prefix, extend, children, prefixes, undominated, front, completions, IsListOf, AreLimits}
+use Rattle.plain_lemmas.proofs.Lists.{Among, Among-filter, filter-Among, flat_map-Among}
+use Rattle.prefix_fronts.proofs.Members.{prefix-facts, children-Among}
 use Rattle.prefix_fronts.proofs.Fronts.{survivor-parent, front-among}
 use Rattle.prefix_fronts.proofs.Best.{finishers-Among}
 
@@ -53,12 +54,12 @@ prefix-in g target passes n (suc d) k j p settings limits e below h =
     record { prefix = rest.prefix; among = rest.among; is = ap (λ (q : Prefix). take k q.actions) (sym up.is) ∙ cut ∙ rest.is }
 
 pub answer-in : (g : SettingsFields) (target : ℕ) (passes : ℕ → StateFields → Bool) (n k : ℕ) (c : Prefix) → AreSettings g → AreLimits g target passes → k < n →
-    Contains (completions g target passes n) c → IsIn (take k c.actions) (front g passes n k)
+    Contains (completions g target passes n) c → IsListOf (take k c.actions) (front g passes n k)
 answer-in g target passes n k c settings limits below h =
-    let here = Among-Contains _ c h in
+    let here = Contains-Among _ c h in
     let f = finishers-Among g target _ c here in
     let split : n - 1 ≡ n - 1 - k + k = omega (arith, below) in
     let r = prefix-in g target passes n (n - 1 - k) k (n - 1) f.from settings limits split (omega (arith, below)) f.among in
     let long = (prefix-facts g settings (n - 1) f.from (front-among g passes n (n - 1) f.from f.among)).length in
     let cut : take k (f.from.actions ++ f.action ∷ []) ≡ take k f.from.actions = take-append-le k f.from.actions (f.action ∷ []) (omega (arith, long, below)) in
-    (r.prefix, Contains-from _ r.prefix r.among, ap (λ (q : Prefix). take k q.actions) (sym f.is) ∙ cut ∙ r.is)
+    (r.prefix, Among-Contains _ r.prefix r.among, ap (λ (q : Prefix). take k q.actions) (sym f.is) ∙ cut ∙ r.is)

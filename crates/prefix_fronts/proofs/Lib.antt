@@ -3,6 +3,6 @@ pub mod Dominance
 pub mod Dominated
 pub mod Fronts
 pub mod Inside
-pub mod Lists
 pub mod Members
+pub mod Replaced
 pub mod Sorted

@@ -1,20 +1,21 @@
 -- What the live prefixes of a length are.
 use Rattle.std.proofs.Common.{◌≡◌, ◌∙◌, sym, ℕ, zero, suc, ◌+◌, ◌<◌, ◌≤◌, true, false, ◌||◌, ◌==◌, inl, inr, List, [], ◌∷◌, ◌++◌, length, get_or, length-append, Some, ◌*◌, arith, refl, ap, subst}
+use Rattle.plain_lemmas.proofs.Places.{Among-get_or}
 use Rattle.std.proofs.lemmas.Bool.Decides.{nat_tests}
 use Rattle.std.specs.List.{Contains}
 use Rattle.action_table.specs.declared.action.Action.{Action}
 use Rattle.action_table.specs.declared.action.Action.TheVariants.{BasicSynthesis}
-use Rattle.action_table.specs.Table.{number_of, all_actions}
-use Rattle.action_table.proofs.Names.{get_or-number_of}
+use Rattle.action_table.specs.Table.{number_of, all_actions, action_seconds}
+use Rattle.action_table.proofs.Names.{get_or-number_of, number_below}
 use Rattle.craft_settings.specs.Ranges.{SettingsFields, AreSettings}
 use Rattle.step_rules.specs.Legality.{start_of, is_over, IsWithin}
 use Rattle.step_rules.proofs.Bounds.{IsWithin-step, IsWithin-start}
 use Rattle.step_rules.specs.Run.{run_of}
 use Rattle.step_rules.proofs.Runs.{run_of-snoc}
-use Rattle.macro_order.specs.Order.{seconds_of, action_seconds}
-use Rattle.macro_order.proofs.Lengths.{row_seconds}
+use Rattle.macro_order.specs.Order.{seconds_of}
+use Rattle.action_table.proofs.Seconds.{seconds_small}
 use Rattle.prefix_fronts.specs.Prefix.{Prefix, extend, goes_on, children, prefixes}
-use Rattle.prefix_fronts.proofs.Lists.{Among, Among-filter, filter-Among, Among-map, map-Among, Among-flat_map, flat_map-Among}
+use Rattle.plain_lemmas.proofs.Lists.{Among, Among-filter, filter-Among, Among-map, map-Among, Among-flat_map, flat_map-Among}
 use Rattle.prefix_fronts.proofs.Dominance.{goes_on-parts}
 
 -- what each live prefix of a length is
@@ -23,25 +24,8 @@ pub record IsPrefixAt (g : SettingsFields) (k : ℕ) (p : Prefix) : Type 0 where
   pub live : is_over g p.state ≡ false
   pub length : length p.actions ≡ k
   pub ran : run_of g (start_of g) p.actions ≡ Some p.state
-  pub seconds : p.seconds ≡ seconds_of g p.actions
+  pub seconds : p.seconds ≡ seconds_of p.actions
   pub short : p.seconds ≤ 3 * k
-
-pub Among-get_or : {X : Type 0} (xs : List X) (i : ℕ) (d : X) → i < length xs → Among (get_or xs i d) xs
-Among-get_or [] i d h = absurd (omega (arith, h))
-Among-get_or (x ∷ xs) zero d h = inl refl
-Among-get_or (x ∷ xs) (suc i) d h = inr (Among-get_or xs i d (omega (arith, h)))
-
-pub Among-Contains : {X : Type 0} (xs : List X) (x : X) → Contains xs x → Among x xs
-Among-Contains xs x c = subst (λ y. Among y xs) c.2 (Among-get_or xs c.0 x c.1)
-
-pub Contains-from : {X : Type 0} (xs : List X) (x : X) → Among x xs → Contains xs x
-Contains-from [] x h = absurd h
-Contains-from (y ∷ xs) x (inl e) = (0, omega arith, e)
-Contains-from (y ∷ xs) x (inr h) = let r = Contains-from xs x h in (suc r.0, omega (arith, r.1), r.2)
-
-number_below : (a : Action) → number_of a < 26
-number_below BasicSynthesis = omega arith
-number_below _ = omega arith
 
 pub Among-all_actions : (a : Action) → Among a all_actions
 Among-all_actions a = subst (λ b. Among b all_actions) (get_or-number_of a) (Among-get_or all_actions (number_of a) BasicSynthesis (number_below a))
@@ -61,13 +45,9 @@ children-Among g p c h =
     let f = filter-Among (goes_on g p.state) r.0 all_actions r.1 in
     record { action = r.0; goes = f.1; is = r.2 }
 
-pub seconds_of-snoc : (g : SettingsFields) (m : List Action) (a : Action) → seconds_of g (m ++ a ∷ []) ≡ seconds_of g m + action_seconds g a
-seconds_of-snoc g [] a = omega arith
-seconds_of-snoc g (b ∷ m) a = let rest = seconds_of-snoc g m a in omega (arith, rest)
-
-action_short : (g : SettingsFields) (a : Action) → action_seconds g a ≤ 3
-unfolding action_seconds
-action_short g a = row_seconds a g.level
+pub seconds_of-snoc : (m : List Action) (a : Action) → seconds_of (m ++ a ∷ []) ≡ seconds_of m + action_seconds a
+seconds_of-snoc [] a = omega arith
+seconds_of-snoc (b ∷ m) a = let rest = seconds_of-snoc m a in omega (arith, rest)
 
 start_live : (p d : ℕ) → 1 ≤ p → 10 ≤ d → (0 == p || d == 0) ≡ false
 start_live p d h k = grind (arith, nat_tests)
@@ -78,8 +58,8 @@ prefix-next g k p a h go = record {
   live = (goes_on-parts g p.state a go).1;
   length = omega (arith, length-append p.actions (a ∷ []), h.length);
   ran = run_of-snoc g (start_of g) p.state p.actions a h.ran (goes_on-parts g p.state a go).0;
-  seconds = ap (λ n. n + action_seconds g a) h.seconds ∙ sym (seconds_of-snoc g p.actions a);
-  short = omega (arith, h.short, action_short g a);
+  seconds = ap (λ n. n + action_seconds a) h.seconds ∙ sym (seconds_of-snoc p.actions a);
+  short = omega (arith, h.short, seconds_small a);
 }
 
 pub prefix-facts : (g : SettingsFields) → AreSettings g → (k : ℕ) (p : Prefix) → Among p (prefixes g k) → IsPrefixAt g k p

@@ -1,5 +1,6 @@
 -- The live prefixes of a length stand in action order.
 use Rattle.std.proofs.Common.{◌≡◌, ◌∙◌, sym, ℕ, zero, suc, ◌+◌, ◌<◌, ◌≤◌, Bool, true, false, cond, ◌&&◌, ◌||◌, ◌==◌, nat_lt, inl, inr, List, [], ◌∷◌, ◌++◌, length, arith, refl, subst, map}
+use Rattle.plain_lemmas.proofs.Tests.{lt_to}
 use Rattle.std.specs.List.{filter, flat_map}
 use Rattle.std.proofs.lemmas.Bool.Decides.{nat_tests}
 use Rattle.action_table.specs.declared.action.Action.{Action}
@@ -7,7 +8,7 @@ use Rattle.action_table.specs.Table.{number_of, all_actions}
 use Rattle.craft_settings.specs.Ranges.{SettingsFields, AreSettings}
 use Rattle.macro_order.specs.Order.{precedes}
 use Rattle.prefix_fronts.specs.Prefix.{Prefix, extend, goes_on, children, prefixes}
-use Rattle.prefix_fronts.proofs.Lists.{Among, filter-Among, Among-append_cases, flat_map-Among, map-Among}
+use Rattle.plain_lemmas.proofs.Lists.{Among, filter-Among, Among-append_cases, flat_map-Among, map-Among}
 use Rattle.prefix_fronts.proofs.Members.{children-Among, prefix-facts}
 
 -- each element stands in a relation to each later one
@@ -52,9 +53,6 @@ abbrev Rises : ℕ → List Action → Type 0
 Rises n [] = Unit {0}
 Rises n (a ∷ rest) = (n ≤ number_of a) × Rises (number_of a + 1) rest
 
-lt_test : (a b : ℕ) → a < b → nat_lt a b ≡ true
-lt_test a b h = grind (arith, nat_tests)
-
 Rises-above : (n : ℕ) (xs : List Action) (y : Action) → Rises n xs → Among y xs → n ≤ number_of y
 Rises-above n [] y h m = absurd m
 Rises-above n (x ∷ xs) y h (inl e) = subst (λ a. n ≤ number_of a) e h.0
@@ -62,7 +60,7 @@ Rises-above n (x ∷ xs) y h (inr m) = let more = Rises-above (number_of x + 1) 
 
 Rises-ordered : (n : ℕ) (xs : List Action) → Rises n xs → Ordered numbered_before xs
 Rises-ordered n [] h = tt
-Rises-ordered n (x ∷ xs) h = (λ y m. lt_test _ _ (omega (arith, Rises-above (number_of x + 1) xs y h.1 m)), Rises-ordered (number_of x + 1) xs h.1)
+Rises-ordered n (x ∷ xs) h = (λ y m. lt_to _ _ (omega (arith, Rises-above (number_of x + 1) xs y h.1 m)), Rises-ordered (number_of x + 1) xs h.1)
 
 pub Ordered-all_actions : Ordered numbered_before all_actions
 Ordered-all_actions = Rises-ordered 0 all_actions (omega arith, (omega arith, (omega arith, (omega arith, (omega arith, (omega arith, (omega arith, (omega arith, (omega arith, (omega arith, (omega arith, (omega arith, (omega arith, (omega arith, (omega arith, (omega arith, (omega arith, (omega arith, (omega arith, (omega arith, (omega arith, (omega arith, (omega arith, (omega arith, (omega arith, (omega arith, tt))))))))))))))))))))))))))

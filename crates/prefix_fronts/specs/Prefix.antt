@@ -2,15 +2,15 @@
 use Rattle.std.specs.Prelude.{ℕ, zero, suc, Bool, true, false, List, [], ◌∷◌, ◌++◌, ◌≡◌, ◌+◌, ◌-◌, ◌<◌, ◌≤◌, ◌&&◌, ◌||◌, ◌==◌, not, nat_lt, filter, length, map, take, All, Contains, Some, ◌⊎◌}
 use Rattle.std.specs.List.{flat_map, list_any}
 use Rattle.action_table.specs.declared.action.Action.{Action}
-use Rattle.action_table.specs.Table.{all_actions}
+use Rattle.action_table.specs.Table.{all_actions, action_seconds}
 use Rattle.craft_state.specs.Craft.{StateFields}
 use Rattle.craft_settings.specs.Ranges.{SettingsFields, AreSettings}
 use Rattle.step_rules.specs.Legality.{start_of, is_complete, is_over, is_legal, IsWithin}
 use Rattle.step_rules.specs.Step.{step_of}
 use Rattle.craft_state.specs.NotLess.{IsNotLess, is_not_less}
-use Rattle.step_rules.specs.Measure.{most_steps}
+use Rattle.step_rules.specs.declared.legality.TheConstants.{MOST_STEPS}
 use Rattle.step_rules.specs.Macro.{counted, IsReached}
-use Rattle.macro_order.specs.Order.{precedes, action_seconds, score_of, IsBest}
+use Rattle.macro_order.specs.Order.{precedes, score_of, IsBest}
 use Rattle.macro_order.specs.declared.scores.Score.{Score}
 
 -- a list of actions from the start, with the state and the seconds that it leads to
@@ -28,7 +28,7 @@ abbrev pub extend : SettingsFields → Prefix → Action → Prefix
 extend g p action = record {
   actions = p.actions ++ action ∷ [];
   state = step_of g p.state action;
-  seconds = p.seconds + action_seconds g action;
+  seconds = p.seconds + action_seconds action;
 }
 
 -- the action is legal, and its next state is live
@@ -120,8 +120,8 @@ pub record IsFirstFound (g : SettingsFields) (target : ℕ) (passes : Test) (n :
   pub soonest : IsSoonest found (completions g target passes n)
 
 -- a list of actions is that of one of these prefixes
-abbrev pub IsIn : List Action → List Prefix → Type 0
-IsIn m among = (q : Prefix) × Contains among q × (m ≡ q.actions)
+abbrev pub IsListOf : List Action → List Prefix → Type 0
+IsListOf m among = (q : Prefix) × Contains among q × (m ≡ q.actions)
 
 -- the first completion that is found is the best macro
 abbrev pub first_is_best : Type 0
@@ -139,7 +139,7 @@ next_fronts = (g : SettingsFields) (target : ℕ) (passes : Test) (n k : ℕ) �
 abbrev pub prefixes_in_fronts : Type 0
 prefixes_in_fronts = (g : SettingsFields) (target : ℕ) (passes : Test) (n k : ℕ) (c : Prefix) →
     AreSettings g → AreLimits g target passes → k < n →
-    Contains (completions g target passes n) c → IsIn (take k c.actions) (front g passes n k)
+    Contains (completions g target passes n) c → IsListOf (take k c.actions) (front g passes n k)
 
 -- a live child of a dominated prefix is dominated, by the same child of the prefix that dominates it
 abbrev pub dominance_passes_on : Type 0
@@ -155,10 +155,11 @@ best_is_undominated = (g : SettingsFields) (m : List Action) (k : ℕ) (p q : Pr
 -- each proper prefix of the best macro is one of the undominated prefixes of its length
 abbrev pub best_survives : Type 0
 best_survives = (g : SettingsFields) (m : List Action) (k : ℕ) →
-    AreSettings g → IsBest g m → k < length m → IsIn (take k m) (survivors (prefixes g k))
+    AreSettings g → IsBest g m → k < length m → IsListOf (take k m) (survivors (prefixes g k))
 
 -- where a complete legal macro has the quality that is wanted, some completion has as many actions
 abbrev pub reached_is_found : Type 0
 reached_is_found = (g : SettingsFields) (target : ℕ) (passes : Test) (reached : IsReached g target) →
     AreSettings g → AreLimits g target passes → IsGreatest g target →
-    (1 ≤ length reached.actions) × (length reached.actions ≤ most_steps) × (0 < length (completions g target passes (length reached.actions)))
+    (1 ≤ length reached.actions) × (length reached.actions ≤ MOST_STEPS) ×
+    (0 < length (completions g target passes (length reached.actions)))

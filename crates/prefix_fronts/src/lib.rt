@@ -1,4 +1,4 @@
-// The live prefixes of each length, and the fronts among them. A function's contract is the law; its body does nothing.
+//! The live prefixes of each length, and the fronts among them. A function's contract is the law; its body does nothing.
 #![tactic(auto)]
 
 ghost use Rattle.prefix_fronts.specs.Prefix.{next_fronts, first_is_best, prefixes_in_fronts, dominance_passes_on, best_is_undominated, best_survives, reached_is_found};

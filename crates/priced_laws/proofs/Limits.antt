@@ -1,6 +1,7 @@
 -- The limits of the next state, of the last, and of a state that isn't less; and the laws of the test.
 use Rattle.std.proofs.Common.{ℕ, Bool, true, false, Option, Some, None, ◌≡◌, ◌≤◌, inr, ◌+◌, ◌-◌, ◌*◌, ◌/◌, ◌%◌, ◌&&◌, ◌||◌, ◌==◌, nat_lt, min, refl, ◌∙◌, sym, subst, arith, if◌then◌else◌, not}
 use Rattle.std.specs.Option.{option_map}
+use Rattle.plain_lemmas.proofs.Tests.{and_by}
 use Rattle.std.proofs.lemmas.Nat.{mul-le}
 use Rattle.std.proofs.Math.Nat.{mul-le-mul_left}
 use Rattle.action_table.specs.declared.action.Action.{Action}
@@ -94,12 +95,9 @@ no_touch : (b : Bool) → not (b && false) ≡ true
 no_touch true = refl
 no_touch false = refl
 
-and_both : (a b : Bool) → a ≡ true → b ≡ true → (a && b) ≡ true
-and_both a b h k = rw (h, k) refl
-
 careful_move : (g : SettingsFields) (units : Units) (s : StateFields) → is_listed g CarefulSynthesis ≡ true → is_move_of g (seen_of g units s) CarefulSynthesis ≡ true
 unfolding is_move_of
-careful_move g units s listed = and_both _ _ listed (no_touch (seen_of g units s).begun)
+careful_move g units s listed = and_by _ _ listed (no_touch (seen_of g units s).begun)
 
 pub seen-ten : (g : SettingsFields) (units : Units) (s : StateFields) → IsWithin g s → (seen_of g units s).iq ≤ 10
 unfolding seen_of

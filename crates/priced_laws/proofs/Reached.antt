@@ -1,5 +1,6 @@
 -- No macro beats a limit on its way, and no state is worth more than where a macro to it begins.
-use Rattle.std.proofs.Common.{ℕ, suc, Bool, true, false, List, [], ◌∷◌, Option, Some, None, ◌≡◌, ◌≤◌, ◌+◌, ◌-◌, ◌*◌, ◌/◌, ◌||◌, min, length, refl, sym, subst, arith, if◌then◌else◌}
+use Rattle.std.proofs.Common.{ℕ, suc, true, false, List, [], ◌∷◌, Some, ◌≡◌, ◌≤◌, ◌+◌, ◌-◌, ◌*◌, ◌/◌, min, length, refl, sym, subst, arith}
+use Rattle.plain_lemmas.proofs.Tests.{some_same, clash}
 use Rattle.std.proofs.Math.Nat.{mul-le-mul_left}
 use Rattle.action_table.specs.declared.action.Action.{Action}
 use Rattle.craft_state.specs.Craft.{StateFields, AreEffects}
@@ -9,10 +10,9 @@ use Rattle.step_rules.specs.Run.{run_of}
 use Rattle.step_rules.specs.Macro.{counted}
 use Rattle.step_rules.specs.Step.{step_of}
 use Rattle.step_rules.proofs.Bounds.{IsWithin-step}
-use Rattle.step_rules.proofs.LegalFacts.{legal_facts}
 use Rattle.relaxed_moves.specs.Optimum.{option_le}
 use Rattle.relaxed_moves.proofs.Greatest.{option_le-trans}
-use Rattle.admissible.proofs.Reached.{first-step}
+use Rattle.admissible.proofs.Reached.{ran, complete_over, first-step, over-run}
 use Rattle.priced_moves.specs.declared.kinds.Prices.{Prices}
 use Rattle.priced_moves.specs.declared.kinds.Units.{Units}
 use Rattle.priced_moves.specs.Moves.{AreUnits, seen_of}
@@ -69,30 +69,10 @@ pub limit-free : (p : Prices) (g : SettingsFields) (units : Units) (s : StateFie
     option_le (limit_of p g units s i) (limit_of p g units s j)
 limit-free p g units s i j fair are within free many = limit-worth p g units s i j fair are within (worth-free p s i j fair.coin free within.effects many)
 
-ran : (b : Bool) (o : Option StateFields) (t : StateFields) → (if b then o else None) ≡ Some t → (b ≡ true) × (o ≡ Some t)
-ran true o t h = (refl, h)
-ran false o t h = absurd (cc)
-
-same_state : (s t : StateFields) → Some s ≡ Some t → s ≡ t
-same_state s t h = cc
-
-clash : (t : Bool) → t ≡ true → t ≡ false → ⊥
-clash t h k = cc
-
-complete_over : (c d : Bool) → c ≡ true → (c || d) ≡ false → ⊥
-complete_over c d h k = cc
-
--- a craft that is over goes no further
-over-run : (g : SettingsFields) (s t : StateFields) (m : List Action) → is_over g s ≡ true → run_of g s m ≡ Some t → s ≡ t
-over-run g s t [] over h = same_state s t h
-over-run g s t (a ∷ m) over h =
-    let parts = ran (is_legal g s a) (run_of g (step_of g s a) m) t h in
-    absurd (clash _ over (legal_facts g s a parts.0).live)
-
 -- a live state is completed by some action
 pub some-run : (g : SettingsFields) (s t : StateFields) (m : List Action) → is_over g s ≡ false → run_of g s m ≡ Some t → is_complete g t ≡ true → 1 ≤ length m
 some-run g s t [] live h done =
-    let e : s ≡ t = same_state s t h in
+    let e : s ≡ t = some_same s t h in
     absurd (complete_over (is_complete g s) _ (subst (λ u. is_complete g u ≡ true) (sym e) done) live)
 some-run g s t (a ∷ m) live h done = omega arith
 
@@ -109,7 +89,7 @@ limit-next p g units s t a m fair are later h done =
 run-limit : (p : Prices) (g : SettingsFields) (units : Units) (s t : StateFields) (m : List Action) → AreFair g p → AreUnits units → IsWithin g s → s.effects.first ≡ false → is_over g s ≡ false →
     run_of g s m ≡ Some t → is_complete g t ≡ true → option_le (Some (counted g t)) (limit_of p g units s (length m))
 run-limit p g units s t [] fair are within first live h done =
-    let e : s ≡ t = same_state s t h in
+    let e : s ≡ t = some_same s t h in
     absurd (complete_over (is_complete g s) _ (subst (λ u. is_complete g u ≡ true) (sym e) done) live)
 run-limit p g units s t (a ∷ m) fair are within first live h done =
     let parts = ran (is_legal g s a) (run_of g (step_of g s a) m) t h in
@@ -135,7 +115,7 @@ next_steps j n = omega arith
 run-along : (p : Prices) (g : SettingsFields) (units : Units) (s t : StateFields) (m : List Action) (j : ℕ) → AreFair g p → AreUnits units → IsWithin g s → s.effects.first ≡ false →
     run_of g s m ≡ Some t → is_over g t ≡ false → 1 ≤ j → option_le (limit_of p g units t j) (limit_of p g units s (j + length m))
 run-along p g units s t [] j fair are within first h live some =
-    let e : s ≡ t = same_state s t h in
+    let e : s ≡ t = some_same s t h in
     subst (λ u. option_le (limit_of p g units u j) (limit_of p g units s (j + 0))) e (limit-steps p g units s j (j + 0) fair are within (omega arith))
 run-along p g units s t (a ∷ m) j fair are within first h live some =
     let parts = ran (is_legal g s a) (run_of g (step_of g s a) m) t h in
@@ -143,7 +123,7 @@ run-along p g units s t (a ∷ m) j fair are within first h live some =
     elim (is_over g (step_of g s a)) as (λ b. is_over g (step_of g s a) ≡ b → option_le (limit_of p g units t j) (limit_of p g units s (j + suc (length m)))) [
       | true ↦ λ over.
           let e : step_of g s a ≡ t = over-run g (step_of g s a) t m over parts.1 in
-          absurd (clash _ over (subst (λ u. is_over g u ≡ false) (sym e) live))
+          absurd (clash over (subst (λ u. is_over g u ≡ false) (sym e) live))
       | false ↦ λ going.
           let later : GoesLater g s a = record { step = record { within = within; legal = parts.0; live = going }; first = first } in
           option_le-trans _ _ _ rest
@@ -159,7 +139,7 @@ limit-along p g units s t m j fair are leads first some = run-along p g units s 
 pub worth-run : (p : Prices) (g : SettingsFields) (s t : StateFields) (m : List Action) (j : ℕ) → AreFair g p → IsWithin g s → run_of g s m ≡ Some t → is_over g t ≡ false → 1 ≤ j →
     worth_of p t j ≤ worth_of p s (j + length m)
 worth-run p g s t [] j fair within h live some =
-    let e : s ≡ t = same_state s t h in
+    let e : s ≡ t = some_same s t h in
     subst (λ u. worth_of p u j ≤ worth_of p s (j + 0)) e (worth-steps p s j (j + 0) fair.coin (omega arith))
 worth-run p g s t (a ∷ m) j fair within h live some =
     let parts = ran (is_legal g s a) (run_of g (step_of g s a) m) t h in
@@ -167,7 +147,7 @@ worth-run p g s t (a ∷ m) j fair within h live some =
     elim (is_over g (step_of g s a)) as (λ b. is_over g (step_of g s a) ≡ b → worth_of p t j ≤ worth_of p s (j + suc (length m))) [
       | true ↦ λ over.
           let e : step_of g s a ≡ t = over-run g (step_of g s a) t m over parts.1 in
-          absurd (clash _ over (subst (λ u. is_over g u ≡ false) (sym e) live))
+          absurd (clash over (subst (λ u. is_over g u ≡ false) (sym e) live))
       | false ↦ λ going.
           let law = worth-rest p g s a (j + length m) fair record { within = within; legal = parts.0; live = going } (omega arith) in
           omega (arith, rest, law, worth-steps p s (j + length m + 1) (j + suc (length m)) fair.coin (omega arith))

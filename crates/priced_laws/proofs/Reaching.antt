@@ -1,5 +1,6 @@
 -- The test keeps what the fronts ask of a test.
 use Rattle.std.proofs.Common.{◌≡◌, ◌∙◌, ℕ, List, length, ◌+◌, ◌≤◌, Bool, true, false, ◌||◌, ◌&&◌, nat_lt, nat_le, Option, Some, None, arith, refl, ap, subst}
+use Rattle.plain_lemmas.proofs.Tests.{and_by, le_to}
 use Rattle.std.proofs.lemmas.Bool.Decides.{nat_tests}
 use Rattle.action_table.specs.declared.action.Action.{Action}
 use Rattle.craft_state.specs.Craft.{StateFields}
@@ -22,9 +23,6 @@ use Rattle.priced_laws.proofs.Reached.{limit-steps, limit-run, some-run}
 le_trans : (a b c : ℕ) → nat_le a b ≡ true → b ≤ c → nat_le a c ≡ true
 le_trans a b c h k = grind (arith, nat_tests)
 
-le_test : (a b : ℕ) → a ≤ b → nat_le a b ≡ true
-le_test a b h = grind (arith, nat_tests)
-
 -- a greater limit is enough too
 enough-more : (target : ℕ) (o o' : Option ℕ) → option_le o o' → is_enough target o ≡ true → is_enough target o' ≡ true
 enough-more target None o' le h = absurd (cc)
@@ -32,7 +30,7 @@ enough-more target (Some a) None le h = absurd le
 enough-more target (Some a) (Some b) le h = le_trans target a b h le
 
 enough-some : (target most : ℕ) (o : Option ℕ) → target ≤ most → option_le (Some most) o → is_enough target o ≡ true
-enough-some target most o h le = enough-more target (Some most) o le (le_test target most h)
+enough-some target most o h le = enough-more target (Some most) o le (le_to target most h)
 
 both : (a b : Bool) → (a && b) ≡ true → (a ≡ true) × (b ≡ true)
 both true b h = (refl, h)
@@ -109,9 +107,6 @@ are_limits p g units target fair are = record {
       reaches-by p g units target (j + 1) s (omega arith)
       (enough-some target _ _ enough (limit-last p g units s action (j + 1) fair are record { step = record { within = within; legal = legal; done = done }; first = later } (omega arith))));
 }
-
-and_by : (a b : Bool) → a ≡ true → b ≡ true → (a && b) ≡ true
-and_by a b h k = rw (h, k) refl
 
 -- two tests together
 pub AreLimits-both : (g : SettingsFields) (target : ℕ) (one two : Test) → AreLimits g target one → AreLimits g target two → AreLimits g target (λ j s. one j s && two j s)

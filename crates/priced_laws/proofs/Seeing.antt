@@ -1,8 +1,9 @@
 -- What is seen of the next state, against the move.
-use Rattle.std.proofs.Common.{ℕ, Bool, true, false, ◌≡◌, ◌≤◌, inl, inr, ◌+◌, ◌-◌, ◌*◌, nat_lt, nat_le, min, refl, ap, ◌∙◌, arith, if◌then◌else◌, ◌&&◌, ◌||◌, subst}
+use Rattle.std.proofs.Common.{ℕ, Bool, true, false, ◌≡◌, ◌≤◌, inl, inr, ◌+◌, ◌-◌, ◌*◌, nat_lt, min, refl, ap, ◌∙◌, arith, if◌then◌else◌, ◌&&◌, ◌||◌, subst}
+use Rattle.plain_lemmas.proofs.Tests.{clash}
 use Rattle.std.proofs.lemmas.Nat.{mul-le, le-div}
 use Rattle.action_table.specs.declared.action.Action.{Action}
-use Rattle.action_table.specs.declared.action.Action.TheVariants.{Groundwork, BasicSynthesis, BasicTouch, Observe, StandardTouch, ByregotsBlessing, RefinedTouch}
+use Rattle.action_table.specs.declared.action.Action.TheVariants.{Groundwork, BasicSynthesis, BasicTouch, Observe, StandardTouch}
 use Rattle.action_table.specs.Table.{row_of}
 use Rattle.craft_numbers.specs.Gains.{bonus_of, progress_gain_of}
 use Rattle.craft_state.specs.declared.Combo.{Combo}
@@ -11,8 +12,9 @@ use Rattle.craft_state.specs.Craft.{EffectFields, StateFields}
 use Rattle.craft_settings.specs.Ranges.{SettingsFields}
 use Rattle.craft_settings.specs.Rules.{is_allowed}
 use Rattle.combo_effects.specs.Combos.{tick_of, after_of, next_combo}
+use Rattle.combo_effects.specs.Touches.{iq_after}
 use Rattle.step_rules.specs.Legality.{IsWithin}
-use Rattle.step_rules.specs.Step.{progress_efficiency, progress_after, stacks_of, iq_after, used_effects, acted_of, settled_of, step_of}
+use Rattle.step_rules.specs.Step.{progress_efficiency, progress_after, used_effects, acted_of, settled_of, step_of}
 use Rattle.step_rules.proofs.LegalFacts.{legal_facts, effects_allow}
 use Rattle.relaxed_moves.specs.Moves as relaxed
 use Rattle.relaxed_moves.specs.Moves.{relax_of, move_progress}
@@ -21,7 +23,7 @@ use Rattle.admissible.proofs.Potential.{goes-acted, step-settled, allowed-now}
 use Rattle.admissible.proofs.Relaxing.{opens, opens-not, progress-le, quality-le, rest-progress, rest-gain}
 use Rattle.admissible.proofs.Limits.{Later, move-law, rest-law, step-parts}
 use Rattle.priced_moves.specs.declared.kinds.Units.{Units}
-use Rattle.priced_moves.specs.Moves.{plain, IsNoAbler, AreUnits, ceiling, is_listed, progress_units, seen_of, gain_of, progress_of, shift_of, touch_stacks, touch_iq, move_on_of}
+use Rattle.priced_moves.specs.Moves.{plain, IsNoAbler, AreUnits, ceiling, is_listed, progress_units, seen_of, gain_of, progress_of, shift_of, move_on_of}
 use Rattle.priced_laws.specs.Laws.{GoesLater}
 use Rattle.priced_moves.proofs.Places.{own-efficiency}
 use Rattle.priced_laws.proofs.Places.{listed-relaxed}
@@ -59,22 +61,11 @@ step-need g units s a are allowed =
     let gained = seen-progress g units s a allowed in
     need-falls units g.progress s.progress (step_of g s a).progress _ are (omega (arith, parts.0, gained))
 
-stacks-same : (g : SettingsFields) (combo : Combo) (a : Action) → stacks_of g combo a ≡ touch_stacks g combo a
-stacks-same g Basic RefinedTouch = refl
-stacks-same g Basic BasicSynthesis = refl
-stacks-same g Basic _ = refl
-stacks-same g _ _ = refl
-
-iq-same : (g : SettingsFields) (e : EffectFields) (a : Action) → iq_after g e a ≡ touch_iq g e.iq e.combo a
-iq-same g e ByregotsBlessing = refl
-iq-same g e BasicSynthesis = ap (λ (n : ℕ). if nat_le 11 g.level then min 10 (e.iq + n) else e.iq) (stacks-same g e.combo BasicSynthesis)
-iq-same g e a = ap (λ (n : ℕ). if nat_le 11 g.level then min 10 (e.iq + n) else e.iq) (stacks-same g e.combo a)
-
 after-iq : (g : SettingsFields) (e : EffectFields) (a : Action) →
-    (after_of (tick_of (used_effects g e a)) a).iq ≡ (if nat_lt 0 (row_of a g.level).quality then touch_iq g e.iq e.combo a else e.iq)
+    (after_of (tick_of (used_effects g e a)) a).iq ≡ (if nat_lt 0 (row_of a g.level).quality then iq_after g.level e.iq e.combo a else e.iq)
 unfolding tick_of after_of
-after-iq g e BasicSynthesis = ap (λ (n : ℕ). if nat_lt 0 (row_of BasicSynthesis g.level).quality then n else e.iq) (iq-same g e BasicSynthesis)
-after-iq g e a = ap (λ (n : ℕ). if nat_lt 0 (row_of a g.level).quality then n else e.iq) (iq-same g e a)
+after-iq g e BasicSynthesis = refl
+after-iq g e a = refl
 
 after-combo : (g : SettingsFields) (e : EffectFields) (a : Action) → (after_of (tick_of (used_effects g e a)) a).combo ≡ next_combo e.combo a
 unfolding tick_of after_of
@@ -88,7 +79,7 @@ pub step-effects : (g : SettingsFields) (s : StateFields) (a : Action) → GoesO
 step-effects g s a step = ap (λ t. t.effects) (step-settled g s a (goes-acted g s a step.live)) ∙ settled-effects g s a
 
 step-iq : (g : SettingsFields) (s : StateFields) (a : Action) → GoesOn g s a →
-    (step_of g s a).effects.iq ≡ (if nat_lt 0 (row_of a g.level).quality then touch_iq g s.effects.iq s.effects.combo a else s.effects.iq)
+    (step_of g s a).effects.iq ≡ (if nat_lt 0 (row_of a g.level).quality then iq_after g.level s.effects.iq s.effects.combo a else s.effects.iq)
 step-iq g s a step = ap (λ e. e.iq) (step-effects g s a step) ∙ after-iq g s.effects a
 
 step-combo : (g : SettingsFields) (s : StateFields) (a : Action) → GoesOn g s a → (step_of g s a).effects.combo ≡ next_combo s.effects.combo a
@@ -171,14 +162,11 @@ seen-move g units s a are later =
       begun = begun-move g s a later.step.within;
     }
 
-clash : (t : Bool) → t ≡ true → t ≡ false → ⊥
-clash t h k = cc
-
 -- a rest leaves no combo
 rest-combo : (g : SettingsFields) (combo : Combo) (a : Action) → is_allowed g a ≡ true → is_listed g a ≡ false → next_combo combo a ≡ NoCombo
-rest-combo g combo BasicTouch allowed rest = absurd (clash (is_allowed g BasicTouch) allowed (grind arith))
-rest-combo g combo Observe allowed rest = absurd (clash (is_allowed g Observe) allowed rest)
-rest-combo g Basic StandardTouch allowed rest = absurd (clash (is_allowed g StandardTouch) allowed (grind arith))
+rest-combo g combo BasicTouch allowed rest = absurd (clash allowed (grind arith))
+rest-combo g combo Observe allowed rest = absurd (clash allowed rest)
+rest-combo g Basic StandardTouch allowed rest = absurd (clash allowed (grind arith))
 rest-combo g combo BasicSynthesis allowed rest = refl
 rest-combo g combo _ allowed rest = refl
 

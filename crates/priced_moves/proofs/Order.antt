@@ -10,6 +10,7 @@ use Rattle.craft_state.specs.declared.Combo.{Combo}
 use Rattle.craft_state.specs.declared.Combo.TheVariants.{NoCombo, Basic}
 use Rattle.craft_settings.specs.Ranges.{SettingsFields}
 use Rattle.combo_effects.specs.Combos.{cp_cost_of, next_combo}
+use Rattle.combo_effects.specs.Touches.{stacks_of, iq_after}
 use Rattle.relaxed_moves.specs.Moves as relaxed
 use Rattle.relaxed_moves.specs.Budget.{wear_cost}
 use Rattle.relaxed_moves.specs.Optimum.{option_le}
@@ -17,7 +18,7 @@ use Rattle.relaxed_moves.proofs.Greatest.{option_le-trans}
 use Rattle.relaxed_moves.proofs.Order.{move_gain-more, progress_gain-more}
 use Rattle.priced_moves.specs.declared.kinds.Prices.{Prices}
 use Rattle.priced_moves.specs.declared.kinds.Units.{Units}
-use Rattle.priced_moves.specs.Moves.{SeenFields, plain, IsNoAbler, AreUnits, is_listed, is_move_of, is_halved, cp_of, gain_of, progress_of, shift_of, touch_stacks, touch_iq, move_on_of}
+use Rattle.priced_moves.specs.Moves.{SeenFields, plain, IsNoAbler, AreUnits, is_listed, is_move_of, is_halved, cp_of, gain_of, progress_of, shift_of, move_on_of}
 use Rattle.priced_moves.specs.Prices.{AreFair, raw_price, price_of}
 use Rattle.priced_moves.specs.Optimum.{gained, best}
 use Rattle.priced_moves.proofs.Plans.{best-upper, best-least}
@@ -54,16 +55,16 @@ price-more p g a c d coin h =
     (raw-more p.cp (cp_of g d a) (cp_of g c a) (wear_cost p.five p.waste ((row_of a g.level).durability / 5)) p.step (cp-more g a c d h))
 
 -- no combo never adds more stacks
-stacks-none : (g : SettingsFields) (a : Action) (combo : Combo) → touch_stacks g NoCombo a ≤ touch_stacks g combo a
+stacks-none : (g : SettingsFields) (a : Action) (combo : Combo) → stacks_of g.level NoCombo a ≤ stacks_of g.level combo a
 stacks-none g RefinedTouch Basic = omega arith
 stacks-none g BasicSynthesis Basic = omega arith
 stacks-none g _ Basic = omega arith
 stacks-none g _ _ = omega arith
 
-stacks-more : (g : SettingsFields) (a : Action) (c d : Combo) → (c ≡ NoCombo) ⊎ (c ≡ d) → touch_stacks g c a ≤ touch_stacks g d a
-stacks-more g a c d h = combo-cases (λ c d. touch_stacks g c a ≤ touch_stacks g d a) c d h (stacks-none g a) (λ e. omega arith)
+stacks-more : (g : SettingsFields) (a : Action) (c d : Combo) → (c ≡ NoCombo) ⊎ (c ≡ d) → stacks_of g.level c a ≤ stacks_of g.level d a
+stacks-more g a c d h = combo-cases (λ c d. stacks_of g.level c a ≤ stacks_of g.level d a) c d h (stacks-none g a) (λ e. omega arith)
 
-iq-more : (g : SettingsFields) (n m : ℕ) (a : Action) (c d : Combo) → n ≤ m → (c ≡ NoCombo) ⊎ (c ≡ d) → touch_iq g n c a ≤ touch_iq g m d a
+iq-more : (g : SettingsFields) (n m : ℕ) (a : Action) (c d : Combo) → n ≤ m → (c ≡ NoCombo) ⊎ (c ≡ d) → iq_after g.level n c a ≤ iq_after g.level m d a
 iq-more g n m ByregotsBlessing c d more h = omega arith
 iq-more g n m a c d more h = let stacks = stacks-more g a c d h in if_le (nat_le 11 g.level) _ _ _ _ (omega arith) more
 
@@ -137,7 +138,7 @@ if_bound : (c : Bool) (a b n : ℕ) → a ≤ n → b ≤ n → (if c then a els
 if_bound true a b n h k = h
 if_bound false a b n h k = k
 
-iq_bound : (g : SettingsFields) (n : ℕ) (c : Combo) (a : Action) → n ≤ 10 → touch_iq g n c a ≤ 10
+iq_bound : (g : SettingsFields) (n : ℕ) (c : Combo) (a : Action) → n ≤ 10 → iq_after g.level n c a ≤ 10
 iq_bound g n c ByregotsBlessing h = omega arith
 iq_bound g n c a h = if_bound (nat_le 11 g.level) _ _ 10 (omega arith) h
 

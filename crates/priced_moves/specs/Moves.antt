@@ -1,15 +1,16 @@
 -- What the priced bounds see of a state, and the moves between what is seen.
-use Rattle.std.specs.Prelude.{ℕ, Bool, false, ◌≤◌, ◌≡◌, ◌⊎◌, ◌+◌, ◌-◌, ◌*◌, ◌/◌, ◌&&◌, nat_lt, nat_le, min, if◌then◌else◌, not, ◌||◌}
+use Rattle.std.specs.Prelude.{ℕ, Bool, false, ◌≤◌, ◌≡◌, ◌⊎◌, ◌+◌, ◌-◌, ◌*◌, ◌/◌, ◌&&◌, nat_lt, if◌then◌else◌, not, ◌||◌}
 use Rattle.action_table.specs.declared.action.Action.{Action}
-use Rattle.action_table.specs.declared.action.Action.TheVariants.{Observe, CarefulSynthesis, Groundwork, ByregotsBlessing, RefinedTouch}
+use Rattle.action_table.specs.declared.action.Action.TheVariants.{Observe, CarefulSynthesis, Groundwork}
 use Rattle.action_table.specs.Table.{row_of}
 use Rattle.craft_numbers.specs.Gains.{progress_gain_of}
 use Rattle.craft_state.specs.declared.Combo.{Combo}
-use Rattle.craft_state.specs.declared.Combo.TheVariants.{NoCombo, Basic}
+use Rattle.craft_state.specs.declared.Combo.TheVariants.{NoCombo}
 use Rattle.craft_state.specs.Craft.{StateFields}
 use Rattle.craft_settings.specs.Ranges.{SettingsFields}
 use Rattle.craft_settings.specs.Rules.{is_allowed}
 use Rattle.combo_effects.specs.Combos.{next_combo, cp_cost_of}
+use Rattle.combo_effects.specs.Touches.{iq_after}
 use Rattle.relaxed_moves.specs.Moves as relaxed
 use Rattle.priced_moves.specs.declared.kinds.Units.{Units}
 
@@ -126,21 +127,11 @@ gain_of g units x action = quality_units units (relaxed.move_gain_of g (plain x)
 abbrev pub shift_of : SettingsFields → Units → SeenFields → Action → ℕ
 shift_of g units x action = progress_units units (progress_of g x action)
 
--- the stacks that a touch adds
-abbrev pub touch_stacks : SettingsFields → Combo → Action → ℕ
-touch_stacks g Basic RefinedTouch = 2
-touch_stacks g combo action = (row_of action g.level).stacks
-
--- the stacks after a touch
-abbrev pub touch_iq : SettingsFields → ℕ → Combo → Action → ℕ
-touch_iq g iq combo ByregotsBlessing = 0
-touch_iq g iq combo action = if nat_le 11 g.level then min 10 (iq + touch_stacks g combo action) else iq
-
 -- what is seen after a move
 unfoldable pub move_on_of : SettingsFields → Units → SeenFields → Action → SeenFields
 move_on_of g units x action = record {
   need = x.need - shift_of g units x action;
-  iq = if nat_lt 0 (row_of action g.level).quality then touch_iq g x.iq x.combo action else x.iq;
+  iq = if nat_lt 0 (row_of action g.level).quality then iq_after g.level x.iq x.combo action else x.iq;
   innovation = relaxed.move_innovation x.innovation action;
   veneration = relaxed.move_veneration x.veneration action;
   strides = relaxed.move_strides g x.strides action;

@@ -1,11 +1,12 @@
 ghost use Rattle.std.specs.Prelude.{◌≡◌, ◌≤◌, ◌*◌, true};
 ghost use Rattle.combo_effects.specs.Combos.{next_combo};
-ghost use Rattle.priced_moves.specs.Moves.{AreSmallUnits, progress_units, quality_units, is_listed, is_move_of, seen_of, gain_of, efficiency_of, shift_of, touch_iq, move_on_of};
+ghost use Rattle.priced_moves.specs.Moves.{AreSmallUnits, progress_units, quality_units, is_listed, is_move_of, seen_of, gain_of, efficiency_of, shift_of, move_on_of};
 
 use crate::kinds::{Seen, Units};
 use crate::prices::is_halved;
 use action_table::{Action, row};
-use craft_numbers::{cap_add, progress_gain, quality_gain};
+use combo_effects::{duration, quality_efficiency, stacks_after};
+use craft_numbers::{progress_gain, quality_gain};
 use craft_settings::{Settings, allowed};
 use craft_state::{Combo, State};
 
@@ -86,14 +87,10 @@ pub fn gain(g: &Settings, units: &Units, x: &Seen, action: Action) -> u32
     ensures high { result ≤ 100000 }
 {
     let row = row(action, g.level);
-    let efficiency = match action {
-        Action::ByregotsBlessing => 100 + 20 * x.iq,
-        _ => row.quality,
-    };
     let points = if row.quality > 0 {
         quality_gain(
             g.base_quality,
-            efficiency,
+            quality_efficiency(action, g.level, x.iq),
             x.iq,
             x.innovation > 0,
             x.strides,
@@ -142,16 +139,16 @@ pub fn move_on(g: &Settings, units: &Units, x: &Seen, action: Action) -> Seen
     Seen {
         need: x.need.saturating_sub(shift(g, units, x, action)),
         iq: if row.quality > 0 {
-            touch_iq(g, x.iq, x.combo, action)
+            stacks_after(action, g.level, x.iq, x.combo)
         } else {
             x.iq
         },
         innovation: match action {
-            Action::Innovation => 4,
+            Action::Innovation => duration(action),
             _ => x.innovation.saturating_sub(1),
         },
         veneration: match action {
-            Action::Veneration => 4,
+            Action::Veneration => duration(action),
             _ => x.veneration.saturating_sub(1),
         },
         strides: match action {
@@ -162,24 +159,6 @@ pub fn move_on(g: &Settings, units: &Units, x: &Seen, action: Action) -> Seen
         muscle: if row.progress > 0 { false } else { x.muscle },
         combo: combo_after(x.combo, action),
         begun: x.begun || g.backload && row.progress > 0,
-    }
-}
-
-// The stacks after a touch.
-fn touch_iq(g: &Settings, iq: u32, combo: Combo, action: Action) -> u32
-    requires { iq ≤ 10 }
-    ensures value { result ≡ touch_iq g.now iq combo action }
-    ensures range { result ≤ 10 }
-{
-    let stacks = match (combo, action) {
-        (_, Action::ByregotsBlessing) => return 0,
-        (Combo::Basic, Action::RefinedTouch) => 2,
-        _ => row(action, g.level).stacks,
-    };
-    if g.level >= 11 {
-        cap_add(iq, stacks, 10)
-    } else {
-        iq
     }
 }
 

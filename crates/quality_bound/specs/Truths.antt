@@ -22,4 +22,5 @@ abbrev pub quality_entry : SettingsFields → ℕ → ℕ → Entry
 quality_entry g grain place = entry_by (opt g grain (first_at grain place) (state_at grain place))
 
 pub are_quality_rules : (g : SettingsFields) (grain : ℕ) → AreSettings g → IsFromTo 1 64 grain → AreBoundRules (quality_rules g grain)
-are_quality_rules g grain settings range = record { settings = settings; grain = range; priced = ArePriced-cost g settings; positive = omega arith; most = start_small g settings }
+are_quality_rules g grain settings range =
+    record { settings = settings; grain = range; priced = ArePriced-cost g settings; positive = omega arith; most = start_small g settings }

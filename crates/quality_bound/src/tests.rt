@@ -6,33 +6,23 @@ use crate::{QualityTruth, ask, fill_budget, fill_column, limit};
 use action_table::{Action, WantMemory};
 use craft_settings::Settings;
 use race_core::{Core, Entry, Event};
-use relaxed_moves::{at_bucket, of_index, potential, start_potential};
+use relaxed_moves::{of_index, potential, start_potential};
 use seat_tables::{Seat, Shared};
 use std::alloc::Global;
 use std::test::Fail;
 use step_rules::{replay, start};
-use worker_gate::FreeGate;
-
-const FIRST_TOUCH: Settings = Settings {
-    level: 5,
-    cp: 18,
-    durability: 20,
-    progress: 100,
-    quality: 500,
-    initial: 0,
-    base_progress: 100,
-    base_quality: 100,
-    forbidden: 0,
-    target: 500,
-    backload: false,
+use test_crafts::{
+    FOUR_STEPS, LEVEL_14, LEVEL_73, LEVEL_80, LEVEL_87, LEVEL_96, LEVEL_99, ONE_TOUCH,
 };
+use test_parts::{Word, state_of};
+use worker_gate::FreeGate;
 
 fn first_touch() -> QualityTruth
     ensures grain { result.grain ≡ 16 }
     ensures cp { result.g.cp ≡ 18 }
 {
     QualityTruth {
-        g: FIRST_TOUCH,
+        g: ONE_TOUCH,
         grain: 16,
     }
 }
@@ -146,20 +136,6 @@ fn asked_words_are_there(rt: HostRuntime) -> Result<(), Fail> {
     Ok(())
 }
 
-const FOUR_STEPS: Settings = Settings {
-    level: 26,
-    cp: 54,
-    durability: 20,
-    progress: 150,
-    quality: 500,
-    initial: 0,
-    base_progress: 100,
-    base_quality: 100,
-    forbidden: 0,
-    target: 500,
-    backload: false,
-};
-
 // The limit of a prefix, where it is legal.
 fn limit_after(
     table: &Shared<QualityTruth>,
@@ -210,114 +186,21 @@ fn two_seats_fill_a_budget(rt: HostRuntime) -> Result<(), Fail> {
     Ok(())
 }
 
-const CRAFT_14: Settings = Settings {
-    level: 14,
-    cp: 115,
-    durability: 50,
-    progress: 55,
-    quality: 574,
-    initial: 125,
-    base_progress: 191,
-    base_quality: 287,
-    forbidden: 33554432,
-    target: 527,
-    backload: false,
-};
-
-const CRAFT_87: Settings = Settings {
-    level: 87,
-    cp: 38,
-    durability: 20,
-    progress: 48,
-    quality: 680,
-    initial: 0,
-    base_progress: 72,
-    base_quality: 125,
-    forbidden: 41942974,
-    target: 631,
-    backload: false,
-};
-
-const CRAFT_73: Settings = Settings {
-    level: 73,
-    cp: 92,
-    durability: 20,
-    progress: 469,
-    quality: 1031,
-    initial: 0,
-    base_progress: 153,
-    base_quality: 85,
-    forbidden: 49807188,
-    target: 1031,
-    backload: true,
-};
-
-const CRAFT_96: Settings = Settings {
-    level: 96,
-    cp: 26,
-    durability: 30,
-    progress: 175,
-    quality: 44,
-    initial: 0,
-    base_progress: 165,
-    base_quality: 44,
-    forbidden: 0,
-    target: 44,
-    backload: false,
-};
-
-const CRAFT_80: Settings = Settings {
-    level: 80,
-    cp: 119,
-    durability: 65,
-    progress: 164,
-    quality: 116,
-    initial: 0,
-    base_progress: 164,
-    base_quality: 116,
-    forbidden: 67042814,
-    target: 116,
-    backload: true,
-};
-
-const CRAFT_99: Settings = Settings {
-    level: 99,
-    cp: 110,
-    durability: 65,
-    progress: 334,
-    quality: 2250,
-    initial: 0,
-    base_progress: 167,
-    base_quality: 242,
-    forbidden: 25017782,
-    target: 2250,
-    backload: true,
-};
-
-// Whether a word of the table says this: the budget, the effects number, the bucket and the optimum.
-fn says(
-    table: &Shared<QualityTruth>,
-    seat: &mut Seat<QualityTruth>,
-    word: &(u32, usize, u32, Option<u32>),
-) -> bool
+// Whether the table says this.
+fn says(table: &Shared<QualityTruth>, seat: &mut Seat<QualityTruth>, word: &Word) -> bool
     requires { IsOf table.now seat.old }
     ensures { IsOf table.now seat.new }
 {
     let (first, effects, bucket, most) = *word;
-    let truth = table.truth();
-    if effects >= 1100 || bucket > truth.grain || first > start_potential(&truth.g) {
-        return false;
+    match state_of(table.truth().grain, effects, bucket) {
+        Some(x) => first <= start_potential(&table.truth().g)
+            && ask(table, seat, first, &x) == most,
+        None => false,
     }
-    let (_, x) = of_index(truth.grain, effects);
-    ask(table, seat, first, &at_bucket(&x, bucket)) == most
 }
 
-// Whether it says this of all of these words.
-fn says_all(
-    table: &Shared<QualityTruth>,
-    seat: &mut Seat<QualityTruth>,
-    words: &[(u32, usize, u32, Option<u32>)],
-) -> bool
+// Whether it says all of these words.
+fn says_all(table: &Shared<QualityTruth>, seat: &mut Seat<QualityTruth>, words: &[Word]) -> bool
     requires { IsOf table.now seat.old }
 {
     for word in words {
@@ -328,13 +211,8 @@ fn says_all(
     true
 }
 
-// Whether a craft's table says all of these words.
-fn told(
-    alloc: Global,
-    g: &Settings,
-    grain: u32,
-    words: &[(u32, usize, u32, Option<u32>)],
-) -> Result<bool, WantMemory>
+// Whether the table of a craft says all of these words.
+fn told(alloc: Global, g: &Settings, grain: u32, words: &[Word]) -> Result<bool, WantMemory>
     requires low { 1 ≤ grain }
     requires high { grain ≤ 64 }
 {
@@ -355,7 +233,7 @@ fn drawn_words(rt: HostRuntime) -> Result<(), Fail> {
         (239, 394, 2, Some(2867)),
         (110, 554, 8, Some(1076)),
     ];
-    assert!(rt; told(alloc, &CRAFT_14, 8, &words)?);
+    assert!(rt; told(alloc, &LEVEL_14, 8, &words)?);
     let words = [
         (8, 370, 1, None),
         (14, 1080, 0, Some(0)),
@@ -366,7 +244,7 @@ fn drawn_words(rt: HostRuntime) -> Result<(), Fail> {
         (6, 811, 1, None),
         (89, 318, 0, Some(406)),
     ];
-    assert!(rt; told(alloc, &CRAFT_87, 1, &words)?);
+    assert!(rt; told(alloc, &LEVEL_87, 1, &words)?);
     let words = [
         (108, 322, 4, Some(276)),
         (159, 733, 3, Some(522)),
@@ -377,7 +255,7 @@ fn drawn_words(rt: HostRuntime) -> Result<(), Fail> {
         (81, 868, 2, Some(229)),
         (107, 678, 9, Some(340)),
     ];
-    assert!(rt; told(alloc, &CRAFT_73, 12, &words)?);
+    assert!(rt; told(alloc, &LEVEL_73, 12, &words)?);
     let words = [
         (114, 532, 4, Some(302)),
         (49, 439, 5, Some(0)),
@@ -388,7 +266,7 @@ fn drawn_words(rt: HostRuntime) -> Result<(), Fail> {
         (78, 710, 2, Some(359)),
         (122, 87, 5, Some(273)),
     ];
-    assert!(rt; told(alloc, &CRAFT_96, 6, &words)?);
+    assert!(rt; told(alloc, &LEVEL_96, 6, &words)?);
     let words = [
         (12, 927, 6, None),
         (148, 446, 9, Some(812)),
@@ -399,7 +277,7 @@ fn drawn_words(rt: HostRuntime) -> Result<(), Fail> {
         (147, 775, 6, Some(986)),
         (99, 555, 8, Some(0)),
     ];
-    assert!(rt; told(alloc, &CRAFT_80, 9, &words)?);
+    assert!(rt; told(alloc, &LEVEL_80, 9, &words)?);
     let words = [
         (126, 527, 0, Some(2132)),
         (140, 23, 7, Some(1451)),
@@ -410,6 +288,6 @@ fn drawn_words(rt: HostRuntime) -> Result<(), Fail> {
         (168, 917, 4, Some(2389)),
         (191, 283, 6, Some(2817)),
     ];
-    assert!(rt; told(alloc, &CRAFT_99, 8, &words)?);
+    assert!(rt; told(alloc, &LEVEL_99, 8, &words)?);
     Ok(())
 }

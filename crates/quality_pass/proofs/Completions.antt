@@ -134,7 +134,7 @@ nothing g m None none = refl
 nothing g m (Some last) none =
     elim (bool_cases (is_complete g last)) [
       | inl full ↦ absurd (none last refl full)
-      | inr part ↦ ap (λ (b : Bool). if b then Some (record { quality = counted g last; steps = length m; seconds = seconds_of g m }) else None) part
+      | inr part ↦ ap (λ (b : Bool). if b then Some (record { quality = counted g last; steps = length m; seconds = seconds_of m }) else None) part
     ]
 
 -- where no completion from the start has more quality than a reached one, this is the greatest
@@ -152,7 +152,7 @@ answers g (Some b) most reached = (
 pub at_most-greatest : (g : SettingsFields) (q b : ℕ) → IsReached g q → IsGreatest g b → q ≤ b
 at_most-greatest g q b r most =
     let m = r.actions in
-    let whole : Score = record { quality = counted g r.last; steps = length m; seconds = seconds_of g m } in
+    let whole : Score = record { quality = counted g r.last; steps = length m; seconds = seconds_of m } in
     let says : score_of g m ≡ Some whole = ap (λ (o : Option StateFields). scored g m o) r.ran ∙ ap (λ (t : Bool). if t then Some whole else None) r.complete in
     subst (λ (n : ℕ). n ≤ b) r.same (most m whole says)
 

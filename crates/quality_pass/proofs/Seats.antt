@@ -5,7 +5,7 @@ use Rattle.std.specs.List.{All}
 use Rattle.std.proofs.lemmas.List.{get_or-map, length-map}
 use Rattle.std.proofs.lemmas.List.Elements.{All-map}
 use Rattle.race_core.specs.declared.view.View.{View}
-use Rattle.relaxed_moves.specs.Places.{bucket_states}
+use Rattle.relaxed_moves.specs.declared.places.TheConstants.{BUCKET_STATES}
 use Rattle.worker_gate.specs.Cut.{cut}
 use Rattle.seat_tables.specs.Seats.{SharedFields, SeatFields, IsOf, StillSees}
 use Rattle.seat_tables.proofs.Stills.{still-trans}
@@ -26,12 +26,12 @@ sees-still grain budget from to v w h still = record { seen = λ place first low
 
 pub budget-still : (grain budget : ℕ) (a b : List (SeatFields QualityTruth)) → length b ≡ length a → AllSeeBudget grain budget a → AllStillSee a b → AllSeeBudget grain budget b
 budget-still grain budget a b same h still k d low =
-    subst (λ (n : ℕ). SeesEffects grain budget (cut bucket_states n k) (cut bucket_states n (k + 1)) (get_or b k d).view) (sym same)
+    subst (λ (n : ℕ). SeesEffects grain budget (cut BUCKET_STATES n k) (cut BUCKET_STATES n (k + 1)) (get_or b k d).view) (sym same)
     (sees-still grain budget _ _ _ _ (h k d (omega (arith, same))) (still k d (omega (arith, same))))
 
 -- one budget more
 pub budgets-more : (grain budget : ℕ) (a b : List (SeatFields QualityTruth)) → length b ≡ length a → AllStillSee a b → ((n : ℕ) → n < budget → AllSeeBudget grain n a)
-    → ((k : ℕ) (d : SeatFields QualityTruth) → k < length a → SeesEffects grain budget (cut bucket_states (length a) k) (cut bucket_states (length a) (k + 1)) (get_or b k d).view)
+    → ((k : ℕ) (d : SeatFields QualityTruth) → k < length a → SeesEffects grain budget (cut BUCKET_STATES (length a) k) (cut BUCKET_STATES (length a) (k + 1)) (get_or b k d).view)
     → (n : ℕ) → n < budget + 1 → AllSeeBudget grain n b
 budgets-more grain budget a b same still before here n low = either (cases_lt n budget)
   where
@@ -40,7 +40,7 @@ budgets-more grain budget a b same still before here n low = either (cases_lt n 
     either (inr most) =
         let e : budget ≡ n = omega arith in
         subst (λ (m : ℕ). AllSeeBudget grain m b) e (λ k d inside.
-        subst (λ (m : ℕ). SeesEffects grain budget (cut bucket_states m k) (cut bucket_states m (k + 1)) (get_or b k d).view) (sym same) (here k d (omega (arith, same))))
+        subst (λ (m : ℕ). SeesEffects grain budget (cut BUCKET_STATES m k) (cut BUCKET_STATES m (k + 1)) (get_or b k d).view) (sym same) (here k d (omega (arith, same))))
 
 -- from workers to their seats
 seat_at : (workers : List Worker) (k : ℕ) (w : Worker) (d : SeatFields QualityTruth) → k < length workers → get_or (seats_of workers) k d ≡ (get_or workers k w).seat

@@ -9,7 +9,7 @@ use Rattle.step_rules.specs.Run.{run_of}
 use Rattle.macro_order.specs.Order.{NothingCompletes}
 use Rattle.prefix_fronts.specs.Prefix.{IsGreatest}
 use Rattle.relaxed_moves.specs.Optimum.{option_le, limit_of}
-use Rattle.relaxed_moves.specs.Places.{bucket_states}
+use Rattle.relaxed_moves.specs.declared.places.TheConstants.{BUCKET_STATES}
 use Rattle.worker_gate.specs.Cut.{cut}
 use Rattle.seat_tables.specs.Seats.{SeatFields, StillSees}
 use Rattle.quality_bound.specs.declared.truth.QualityTruth.{QualityTruth}
@@ -32,7 +32,7 @@ AllStillSee before after = (k : ℕ) (d : SeatFields QualityTruth) → k < lengt
 -- the effects numbers are cut among the seats, and each seat has seen the places of this budget that have one of its own
 abbrev pub AllSeeBudget : ℕ → ℕ → List (SeatFields QualityTruth) → Type 0
 AllSeeBudget grain budget seats = (k : ℕ) (d : SeatFields QualityTruth) → k < length seats
-    → SeesEffects grain budget (cut bucket_states (length seats) k) (cut bucket_states (length seats) (k + 1)) (slice_index_or seats k d).view
+    → SeesEffects grain budget (cut BUCKET_STATES (length seats) k) (cut BUCKET_STATES (length seats) (k + 1)) (slice_index_or seats k d).view
 
 -- the same of each budget up to one
 abbrev pub AllSeeBudgets : ℕ → ℕ → List (SeatFields QualityTruth) → Type 0

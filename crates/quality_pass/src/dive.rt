@@ -18,16 +18,13 @@ use quality_bound::QualityTruth;
 use seat_tables::Shared;
 use std::alloc::Global;
 use std::thread::Threads;
-use step_rules::start;
+use step_rules::{MOST_STEPS, start};
 use worker_gate::Gate;
 
 // How many states are kept of a level, dive after dive. A narrow dive costs next to nothing and often reaches the cap.
 // Each wider one pays for itself by what the search then cuts: the widest takes some seconds at most, and saves minutes
 // where the cap is reached by it alone.
 const WIDTHS: [usize; 4] = [30, 300, 3000, 30000];
-
-// No legal macro has more steps.
-const MOST_STEPS: u32 = 272;
 
 /// A quality of some complete legal macro, if one is found. Dives of more and more width go on until one reaches the
 /// cap.

@@ -15,36 +15,11 @@ use std::sync::atomic::{AtomicU64, Ordering};
 use std::test::Fail;
 use std::thread;
 use std::thread::Threads;
+use test_crafts::{ORDINARY, craft};
+use test_parts::{Flags, Meeting, TURNS, is_set_in_time};
 use worker_gate::{FreeGate, Gate};
 
 const GRAIN: u32 = 16;
-
-// How often a wait looks before it gives up.
-const TURNS: u32 = 100_000_000;
-
-// A craft with base values of 100 and nothing forbidden.
-fn craft(level: u32, cp: u32, durability: u32, progress: u32, quality: u32) -> Settings
-    requires level { IsFromTo 1 100 level }
-    requires cp { cp ≤ 1000 }
-    requires durability { IsFromTo 10 100 durability }
-    requires fives { durability % 5 ≡ 0 }
-    requires progress { IsFromTo 1 100000 progress }
-    requires quality { quality ≤ 100000 }
-{
-    Settings {
-        level,
-        cp,
-        durability,
-        progress,
-        quality,
-        initial: 0,
-        base_progress: 100,
-        base_quality: 100,
-        forbidden: 0,
-        target: quality,
-        backload: false,
-    }
-}
 
 // A table of the craft, and so many seats of it.
 fn seated(
@@ -100,20 +75,6 @@ fn answer<G: Gate>(
     Ok(quality)
 }
 
-const ORDINARY: Settings = Settings {
-    level: 50,
-    cp: 180,
-    durability: 40,
-    progress: 150,
-    quality: 400,
-    initial: 0,
-    base_progress: 50,
-    base_quality: 101,
-    forbidden: 0,
-    target: 400,
-    backload: false,
-};
-
 #[test]
 fn small_crafts(rt: HostRuntime) -> Result<(), Fail> {
     let half = (1 << Action::MuscleMemory.number()) | (1 << Action::CarefulSynthesis.number());
@@ -151,23 +112,8 @@ fn small_crafts(rt: HostRuntime) -> Result<(), Fail> {
     Ok(())
 }
 
-// A craft of few actions, by the bits of those that are forbidden.
-fn drawn(
-    level: u32,
-    cp: u32,
-    durability: u32,
-    progress: u32,
-    quality: u32,
-    base_progress: u32,
-    base_quality: u32,
-    forbidden: u32,
-) -> Settings
-    requires level { IsFromTo 1 100 level }
-    requires cp { cp ≤ 1000 }
-    requires durability { IsFromTo 10 100 durability }
-    requires fives { durability % 5 ≡ 0 }
-    requires progress { IsFromTo 1 100000 progress }
-    requires quality { quality ≤ 100000 }
+// The craft with other base values, and few actions: those whose bits are not set.
+fn few(g: Settings, base_progress: u32, base_quality: u32, forbidden: u32) -> Settings
     requires base_progress { IsFromTo 1 5000 base_progress }
     requires base_quality { IsFromTo 1 5000 base_quality }
 {
@@ -175,19 +121,34 @@ fn drawn(
         base_progress,
         base_quality,
         forbidden,
-        ..craft(level, cp, durability, progress, quality)
+        ..g
     }
 }
 
 #[test]
 fn any_number_of_workers_answers_the_same(rt: HostRuntime) -> Result<(), Fail> {
     let table = [
-        (drawn(90, 97, 35, 182, 531, 69, 152, 54517440), Some(478)),
-        (drawn(100, 93, 30, 226, 1398, 105, 113, 46095064), Some(623)),
-        (drawn(50, 124, 40, 252, 808, 104, 139, 49016552), Some(457)),
-        (drawn(100, 95, 30, 410, 1392, 101, 104, 62692908), Some(260)),
-        (drawn(70, 160, 40, 252, 1279, 62, 95, 26192856), Some(569)),
-        (drawn(20, 88, 15, 435, 572, 77, 93, 41549188), None),
+        (
+            few(craft(90, 97, 35, 182, 531), 69, 152, 54517440),
+            Some(478),
+        ),
+        (
+            few(craft(100, 93, 30, 226, 1398), 105, 113, 46095064),
+            Some(623),
+        ),
+        (
+            few(craft(50, 124, 40, 252, 808), 104, 139, 49016552),
+            Some(457),
+        ),
+        (
+            few(craft(100, 95, 30, 410, 1392), 101, 104, 62692908),
+            Some(260),
+        ),
+        (
+            few(craft(70, 160, 40, 252, 1279), 62, 95, 26192856),
+            Some(569),
+        ),
+        (few(craft(20, 88, 15, 435, 572), 77, 93, 41549188), None),
     ];
     for (g, expected) in &table {
         for count in [1, 2, 4] {
@@ -197,54 +158,11 @@ fn any_number_of_workers_answers_the_same(rt: HostRuntime) -> Result<(), Fail> {
     Ok(())
 }
 
-// Each of two workers shows its flag at the gate, and waits there for the other's.
-#[derive(Drop)]
-struct Meeting {
-    first: AtomicU64,
-    second: AtomicU64,
-    missed: AtomicU64,
-}
-
-impl Meeting {
-    fn flag(&self, worker: u32) -> &AtomicU64 {
-        if worker == 0 {
-            &self.first
-        } else {
-            &self.second
-        }
-    }
-}
-
-impl Gate for Meeting {
-    fn pass(&self, worker: u32) {
-        self.flag(worker).store(1, Ordering::SeqCst);
-        if !is_set_in_time(self.flag(1 - worker.min(1))) {
-            self.missed.store(1, Ordering::SeqCst);
-        }
-    }
-}
-
-// Whether a flag is set before the waiting ends.
-fn is_set_in_time(flag: &AtomicU64) -> bool {
-    for _ in 0..TURNS {
-        if flag.load(Ordering::SeqCst) == 1 {
-            return true;
-        }
-    }
-    false
-}
-
 #[test]
 fn the_workers_run_side_by_side(rt: HostRuntime) -> Result<(), Fail> {
-    let gate = Meeting {
-        first: AtomicU64::new(0),
-        second: AtomicU64::new(0),
-        missed: AtomicU64::new(0),
-    };
+    let gate = Meeting::new();
     assert_eq!(rt; answer(&rt, rt.alloc(), &ORDINARY, 2, &gate)?, Some(400));
-    assert_eq!(rt; gate.flag(0).load(Ordering::SeqCst), 1);
-    assert_eq!(rt; gate.flag(1).load(Ordering::SeqCst), 1);
-    assert_eq!(rt; gate.missed.load(Ordering::SeqCst), 0);
+    assert!(rt; gate.have_met());
     assert_eq!(rt;
         answer(&rt, rt.alloc(), &ORDINARY, 1, &FreeGate)?,
         Some(400)
@@ -257,22 +175,13 @@ fn the_workers_run_side_by_side(rt: HostRuntime) -> Result<(), Fail> {
 #[derive(Drop)]
 struct Filling {
     filler: u32,
-    first: AtomicU64,
-    second: AtomicU64,
+    passed: Flags,
     empty: AtomicU64,
     full: AtomicU64,
     late: AtomicU64,
 }
 
 impl Filling {
-    fn flag(&self, worker: u32) -> &AtomicU64 {
-        if worker == 0 {
-            &self.first
-        } else {
-            &self.second
-        }
-    }
-
     fn wait(&self, flag: &AtomicU64) {
         if !is_set_in_time(flag) {
             self.late.store(1, Ordering::SeqCst);
@@ -282,7 +191,7 @@ impl Filling {
 
 impl Gate for Filling {
     fn pass(&self, worker: u32) {
-        if self.flag(worker).swap(1, Ordering::SeqCst) == 1 {
+        if self.passed.of(worker).swap(1, Ordering::SeqCst) == 1 {
             return;
         }
         if worker == self.filler {
@@ -298,8 +207,8 @@ fn watch(gate: &Filling, table: &Shared<QualityTruth>, mut seat: Seat<QualityTru
     requires of { IsOf table.now seat }
     requires inside { index < quality_size_of table.now.truth.g table.now.truth.grain }
 {
-    gate.wait(&gate.first);
-    gate.wait(&gate.second);
+    gate.wait(gate.passed.of(0));
+    gate.wait(gate.passed.of(1));
     if table.load(&mut seat, index).is_some() {
         gate.late.store(1, Ordering::SeqCst);
     }
@@ -384,8 +293,7 @@ fn each_worker_fills_its_part(rt: HostRuntime) -> Result<(), Fail> {
     for (filler, index) in [(1, 1000), (0, 0)] {
         let gate = Filling {
             filler,
-            first: AtomicU64::new(0),
-            second: AtomicU64::new(0),
+            passed: Flags::new(),
             empty: AtomicU64::new(0),
             full: AtomicU64::new(0),
             late: AtomicU64::new(0),

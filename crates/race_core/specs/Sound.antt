@@ -42,7 +42,8 @@ pub record Knows {T : Type 0} (reached : T → ℕ → Type 0) (truth : T) (word
   pub last : IsLast words v.last
 
 -- the words say what the truth says, and each seat knows what is true of them
-pub record Sound {T : Type 0} (size : T → ℕ) (entry : T → ℕ → Entry) (reached : T → ℕ → Type 0) (truth : T) (words : List ℕ) (views : List (View T)) : Type 0 where
+pub record Sound {T : Type 0} (size : T → ℕ) (entry : T → ℕ → Entry) (reached : T → ℕ → Type 0)
+    (truth : T) (words : List ℕ) (views : List (View T)) : Type 0 where
   pub wide : length words ≡ size truth + 1
   pub mark : IsMark (reached truth) (slice_index words 0)
   pub entries : (index : ℕ) → index < size truth → IsWordOf (entry truth index) (slice_index words (index + 1))

@@ -14,7 +14,8 @@ use std::marker::Model;
 
 /// The words of a table and its seats, to which events happen one after another.
 ///
-/// The mark stands at place 0: 0, or 1 + the greatest quality that was offered. The word of index i stands at place i + 1: 0 while it is empty, else the truth's entry.
+/// The mark stands at place 0: 0, or 1 + the greatest quality that was offered. The word of index i stands at place i
+/// + 1: 0 while it is empty, else the truth's entry.
 #[derive(Drop)]
 pub struct Core<T: Truth> {
     truth: T,
@@ -60,7 +61,8 @@ impl<T: Truth> Core<T> {
 
     // A seat that is there, and was not joined away.
     fn live(&self, seat: usize) -> Option<&SeatState>
-        ensures { MatchOption result (live_at self.now.views seat ≡ None) (λ state. live_at self.now.views seat ≡ Some (seat_view self.now.truth state.now)) }
+        ensures { MatchOption result (live_at self.now.views seat ≡ None) (λ state.
+            live_at self.now.views seat ≡ Some (seat_view self.now.truth state.now)) }
     {
         if seat >= self.seats.len() {
             return None;
@@ -74,7 +76,8 @@ impl<T: Truth> Core<T> {
     // One seat has another state.
     fn settle(&mut self, seat: usize, state: SeatState)
         requires there { seat < length self.old.views }
-        requires sound { Sound T.size T.entry T.reached self.old.truth self.old.words (slice_set self.old.views seat (seat_view self.old.truth state)) }
+        requires sound { Sound T.size T.entry T.reached self.old.truth self.old.words
+            (slice_set self.old.views seat (seat_view self.old.truth state)) }
         ensures { self.new ≡ set_view seat (seat_view self.old.truth state) self.old }
     {
         self.seats[seat] = Some(state);
@@ -84,7 +87,8 @@ impl<T: Truth> Core<T> {
     fn settle_word(&mut self, at: usize, word: u64, seat: usize, state: SeatState)
         requires inside { at < length self.old.words }
         requires there { seat < length self.old.views }
-        requires sound { Sound T.size T.entry T.reached self.old.truth (slice_set self.old.words at word) (slice_set self.old.views seat (seat_view self.old.truth state)) }
+        requires sound { Sound T.size T.entry T.reached self.old.truth (slice_set self.old.words at word)
+            (slice_set self.old.views seat (seat_view self.old.truth state)) }
         ensures { self.new ≡ set_view seat (seat_view self.old.truth state) (set_word at word self.old) }
     {
         self.words[at] = word;
@@ -206,7 +210,8 @@ impl<T: Truth> Core<T> {
 
     /// One event happens. A put of an index has the truth's entry, and an offer's quality is reached.
     ///
-    /// An event that names a seat that isn't there or was joined away, an index not below the size, or twice the same seat in a join changes nothing. Refused for memory it changes nothing either.
+    /// An event that names a seat that isn't there or was joined away, an index not below the size, or twice the same
+    /// seat in a join changes nothing. Refused for memory it changes nothing either.
     pub fn play(&mut self, event: Event) -> Result<(), WantMemory>
         requires { IsLawful T.size T.entry T.reached self.old.truth event }
         ensures done { MatchResult result (λ _. self.new ≡ after T.size self.old event) (λ _. self.new ≡ self.old) }
@@ -226,7 +231,8 @@ impl<T: Truth> Core<T> {
     /// The events happen one after another, each lawful as for `play`. Refused for memory a prefix of them has happened.
     pub fn run(&mut self, events: &[Event]) -> Result<(), WantMemory>
         requires { AreLawful T.size T.entry T.reached self.old.truth events.now }
-        ensures done { MatchResult result (λ _. self.new ≡ after_all T.size self.old events.now) (λ _. (n : ℕ) × (n ≤ length events.now) × (self.new ≡ after_all T.size self.old (take n events.now))) }
+        ensures done { MatchResult result (λ _. self.new ≡ after_all T.size self.old events.now) (λ _. (n : ℕ) × (n ≤ length events.now) ×
+            (self.new ≡ after_all T.size self.old (take n events.now))) }
         ensures steady { SteadyAlong T.size T.entry T.reached self.old events.now }
     {
         let _ = &self.truth;

@@ -28,8 +28,8 @@ low_case k d u gain positive tight = omega arith
 high_case : (b e u gain : ℕ) → 0 < u → (b + 1 + e) * u < gain + u → b * u - gain < (0 + 1) * u
 high_case b e u gain positive tight = omega arith
 
-reaches : (k b : ℕ) → nat_le k b ≡ true → k + (b - k) ≡ b
-reaches k b h = grind arith
+up_again : (k b : ℕ) → nat_le k b ≡ true → k + (b - k) ≡ b
+up_again k b h = grind arith
 
 passes : (k b : ℕ) → nat_le k b ≡ false → k ≡ b + 1 + (k - b - 1)
 passes k b h = grind arith
@@ -41,7 +41,7 @@ gone k b h = grind arith
 below_shift : (b u gain k : ℕ) → 0 < u → k * u < gain + u → b * u - gain < (b - k + 1) * u
 below_shift b u gain k positive tight =
     elim (nat_le k b) as (λ t. nat_le k b ≡ t → b * u - gain < (b - k + 1) * u) [
-      | true ↦ λ e. subst (λ (n : ℕ). n * u - gain < (b - k + 1) * u) (reaches k b e) (low_case k (b - k) u gain positive tight)
+      | true ↦ λ e. subst (λ (n : ℕ). n * u - gain < (b - k + 1) * u) (up_again k b e) (low_case k (b - k) u gain positive tight)
       | false ↦ λ e.
           subst (λ (n : ℕ). b * u - gain < (n + 1) * u) (gone k b e)
           (high_case b (k - b - 1) u gain positive (subst (λ (n : ℕ). n * u < gain + u) (passes k b e) tight))
@@ -54,7 +54,7 @@ low_left k d u gain covers = omega arith
 above_shift : (b u gain k : ℕ) → gain < k * u + 1 → (b - k) * u ≤ b * u - gain
 above_shift b u gain k covers =
     elim (nat_le k b) as (λ t. nat_le k b ≡ t → (b - k) * u ≤ b * u - gain) [
-      | true ↦ λ e. subst (λ (n : ℕ). (b - k) * u ≤ n * u - gain) (reaches k b e) (low_left k (b - k) u gain (omega arith))
+      | true ↦ λ e. subst (λ (n : ℕ). (b - k) * u ≤ n * u - gain) (up_again k b e) (low_left k (b - k) u gain (omega arith))
       | false ↦ λ e. subst (λ (n : ℕ). n * u ≤ b * u - gain) (gone k b e) (omega arith)
     ] refl
 

@@ -1,18 +1,14 @@
 -- How the greatest gain follows from the first move.
-use Rattle.std.proofs.Common.{ℕ, Bool, true, false, List, [], ◌∷◌, Option, None, ◌≡◌, ◌≤◌, ◌+◌, ◌-◌, ◌++◌, ◌&&◌, nat_le, take, refl, ◌∙◌, ap, sym, subst, arith, if◌then◌else◌}
+use Rattle.std.proofs.Common.{ℕ, Bool, true, false, List, [], ◌∷◌, Option, None, ◌≡◌, ◌≤◌, ◌+◌, ◌-◌, ◌++◌, ◌&&◌, nat_le, take, get_or, length, ◌<◌, refl, ◌∙◌, ap, sym, subst, arith, if◌then◌else◌}
+use Rattle.std.proofs.lemmas.List.{take_more}
 use Rattle.action_table.specs.declared.action.Action.{Action}
-use Rattle.action_table.specs.declared.action.Action.TheVariants.{BasicSynthesis}
-use Rattle.action_table.specs.Table.{number_of, all_actions}
+use Rattle.action_table.specs.Table.{all_actions}
 use Rattle.craft_settings.specs.Ranges.{SettingsFields}
 use Rattle.relaxed_moves.specs.FirstMoves.{at_end, leads_with, leads}
 use Rattle.relaxed_moves.specs.Moves.{RelaxedFields, is_move_of, move_gain_of, move_on_of}
 use Rattle.relaxed_moves.specs.Optimum.{worth, option_le, option_max, greatest_each, ArePriced, best_plan}
 use Rattle.relaxed_moves.proofs.Greatest.{option_le-trans, option_le-antisym, option_max-left, option_max-right, option_max-least, option_max-assoc, option_max-none, greatest_each-append, greatest_each-upper, greatest_each-least}
-use Rattle.relaxed_moves.proofs.Plans.{worth-nil, worth-cons, best_plan-upper, best_plan-least, best_plan-move, map_le}
-
-if_le : (c : Bool) (a b : Option ℕ) → option_le a b → option_le (if c then a else None) (if c then b else None)
-if_le true a b h = h
-if_le false a b h = tt
+use Rattle.relaxed_moves.proofs.Plans.{worth-nil, worth-cons, best_plan-upper, best_plan-least, best_plan-move, map_le, if_le}
 
 -- a plan gains no more than its first move and the best plan after it
 pub leads_with-upper : (price : Action → ℕ) (g : SettingsFields) (grain budget : ℕ) (x : RelaxedFields) (a : Action) (m : List Action) → ArePriced price g →
@@ -62,13 +58,8 @@ leads-push price g grain budget x tried a =
     (greatest_each-append (leads_with price g grain budget x) tried (a ∷ []) ∙ ap (λ o. option_max (greatest_each (leads_with price g grain budget x) tried) o) (option_max-none (leads_with price g grain budget x a)))
     ∙ sym (option_max-assoc (at_end x) (greatest_each (leads_with price g grain budget x) tried) (leads_with price g grain budget x a))
 
-take_to_action : (action : Action) → take (number_of action + 1) all_actions ≡ take (number_of action) all_actions ++ action ∷ []
-take_to_action BasicSynthesis = refl
-take_to_action _ = refl
-
 -- one more action of the action order
-pub leads-take : (price : Action → ℕ) (g : SettingsFields) (grain budget : ℕ) (x : RelaxedFields) (a : Action) (n : ℕ) → number_of a ≡ n →
-    leads price g grain budget x (take (n + 1) all_actions) ≡ option_max (leads price g grain budget x (take n all_actions)) (leads_with price g grain budget x a)
-leads-take price g grain budget x a n e =
-    subst (λ (m : ℕ). leads price g grain budget x (take (m + 1) all_actions) ≡ option_max (leads price g grain budget x (take m all_actions)) (leads_with price g grain budget x a)) e
-    (rw (take_to_action a) (leads-push price g grain budget x (take (number_of a) all_actions) a))
+pub leads-take : (price : Action → ℕ) (g : SettingsFields) (grain budget : ℕ) (x : RelaxedFields) (n : ℕ) (d : Action) → n < length all_actions →
+    leads price g grain budget x (take (n + 1) all_actions) ≡ option_max (leads price g grain budget x (take n all_actions)) (leads_with price g grain budget x (get_or all_actions n d))
+leads-take price g grain budget x n d inside =
+    ap (leads price g grain budget x) (take_more all_actions n d inside) ∙ leads-push price g grain budget x (take n all_actions) (get_or all_actions n d)

@@ -3,7 +3,7 @@ use Rattle.std.proofs.Common.{ℕ, zero, suc, List, [], ◌∷◌, Option, Some,
 use Rattle.action_table.specs.declared.action.Action.{Action}
 use Rattle.action_table.specs.declared.action.Action.TheVariants.{BasicSynthesis}
 use Rattle.action_table.specs.Table.{number_of, all_actions}
-use Rattle.action_table.proofs.Names.{get_or-number_of}
+use Rattle.action_table.proofs.Names.{get_or-number_of, number_below}
 use Rattle.relaxed_moves.specs.Optimum.{option_le, option_max, greatest_each, greatest}
 
 pub option_le-refl : (a : Option ℕ) → option_le a a
@@ -44,10 +44,6 @@ option_max-either None b v e = inr e
 option_max-either (Some a) None v e = inl e
 option_max-either (Some a) (Some b) v e = grind arith
 
-number_in : (a : Action) → number_of a < 26
-number_in BasicSynthesis = omega arith
-number_in _ = omega arith
-
 each-at : (f : Action → Option ℕ) (xs : List Action) (i : ℕ) (d : Action) → i < length xs → option_le (f (get_or xs i d)) (greatest_each f xs)
 each-at f [] i d h = absurd (omega arith)
 each-at f (a ∷ xs) zero d h = option_max-left (f a) (greatest_each f xs)
@@ -57,7 +53,7 @@ each-at f (a ∷ xs) (suc i) d h =
 pub greatest_each-upper : (f : Action → Option ℕ) (a : Action) → option_le (f a) (greatest_each f all_actions)
 greatest_each-upper f a =
     subst (λ b. option_le (f b) (greatest_each f all_actions)) (get_or-number_of a)
-    (each-at f all_actions (number_of a) BasicSynthesis (number_in a))
+    (each-at f all_actions (number_of a) BasicSynthesis (number_below a))
 
 pub greatest_each-least : (f : Action → Option ℕ) (xs : List Action) (r : Option ℕ) → ((a : Action) → option_le (f a) r) → option_le (greatest_each f xs) r
 greatest_each-least f [] r h = tt

@@ -1,19 +1,11 @@
 -- Different relaxed states have different places.
 use Rattle.std.proofs.Common.{ℕ, Bool, true, false, ◌≡◌, ◌≤◌, ◌<◌, ◌+◌, ◌*◌, ◌/◌, ◌%◌, ◌==◌, sym, refl, arith}
+use Rattle.plain_lemmas.proofs.Tests.{bit_same, bit_small}
 use Rattle.std.proofs.lemmas.Nat.{same_from_place, div_below, mod_below, div-add-mod', mul-le}
 use Rattle.relaxed_moves.specs.Columns.{at_bucket}
 use Rattle.relaxed_moves.specs.Moves.{RelaxedFields, AreRelaxed}
-use Rattle.relaxed_moves.specs.Places.{bucket_states, place_count, bit, effect_number, index_of, first_at, state_at}
-
-bit-injective : (a b : Bool) → bit a ≡ bit b → a ≡ b
-bit-injective true true h = refl
-bit-injective true false h = absurd (omega arith)
-bit-injective false true h = absurd (omega arith)
-bit-injective false false h = refl
-
-bit_small : (a : Bool) → bit a < 2
-bit_small true = omega arith
-bit_small false = omega arith
+use Rattle.relaxed_moves.specs.Places.{place_count, bit, effect_number, index_of, first_at, state_at}
+use Rattle.relaxed_moves.specs.declared.places.TheConstants.{BUCKET_STATES}
 
 same_fields : (x y : RelaxedFields) → x.bucket ≡ y.bucket → x.iq ≡ y.iq → x.innovation ≡ y.innovation → x.veneration ≡ y.veneration → x.strides ≡ y.strides → x.muscle ≡ y.muscle → x ≡ y
 same_fields x y a b c d e f = λ i. record { bucket = a i; iq = b i; innovation = c i; veneration = d i; strides = e i; muscle = f i }
@@ -27,7 +19,7 @@ index_of-injective grain first first' x y bx by wx wy same =
     let n = same_from_place _ x.innovation _ y.innovation 5 (omega (arith, bx.innovation)) (omega (arith, by.innovation)) v.0 in
     let q = same_from_place _ x.iq _ y.iq 11 (omega (arith, bx.iq)) (omega (arith, by.iq)) n.0 in
     let b = same_from_place first x.bucket first' y.bucket (grain + 1) (omega arith) (omega arith) q.0 in
-    (b.0, same_fields x y b.1 q.1 n.1 v.1 (bit-injective _ _ s.1) (bit-injective _ _ m.1))
+    (b.0, same_fields x y b.1 q.1 n.1 v.1 (bit_same _ _ s.1) (bit_same _ _ m.1))
 
 -- the place of a first number and a bucket
 pub outer_below : (first bucket grain : ℕ) → first ≤ 1378 → bucket ≤ grain → grain ≤ 64 → first * (grain + 1) + bucket < (first + 1) * (grain + 1)
@@ -73,16 +65,16 @@ at-index_of grain first x bounds within =
 
 -- the buckets of one first number and one set of effects are a column
 pub index_of-layers : (grain first : ℕ) (x : RelaxedFields) →
-    index_of grain first x ≡ (first * (grain + 1) + x.bucket) * bucket_states + effect_number x
+    index_of grain first x ≡ (first * (grain + 1) + x.bucket) * BUCKET_STATES + effect_number x
 index_of-layers grain first x = omega arith
 
-pub effect_number-below : (x : RelaxedFields) → AreRelaxed x → effect_number x < bucket_states
+pub effect_number-below : (x : RelaxedFields) → AreRelaxed x → effect_number x < BUCKET_STATES
 effect_number-below x bounds =
     omega (arith, bounds.iq, bounds.innovation, bounds.veneration, bit_small x.strides, bit_small x.muscle)
 
 -- the places of a column stand at a stride
 pub index_of-stride : (grain first bucket : ℕ) (x : RelaxedFields) →
-    index_of grain first (at_bucket x 0) + bucket * bucket_states ≡ index_of grain first (at_bucket x bucket)
+    index_of grain first (at_bucket x 0) + bucket * BUCKET_STATES ≡ index_of grain first (at_bucket x bucket)
 index_of-stride grain first bucket x = omega arith
 
 pub relaxed_at : (x : RelaxedFields) (bucket : ℕ) → AreRelaxed x → AreRelaxed (at_bucket x bucket)

@@ -1,13 +1,16 @@
 -- A relaxed state that is no better gains no more.
 use Rattle.std.proofs.Common.{ℕ, Bool, true, false, List, [], ◌∷◌, Option, Some, None, ◌≡◌, ◌≤◌, ◌<◌, ◌+◌, ◌-◌, ◌*◌, ◌/◌, ◌&&◌, ◌==◌, nat_lt, nat_le, refl, arith, if◌then◌else◌}
+use Rattle.craft_state.specs.Craft.{StateFields, AreEffects}
 use Rattle.std.proofs.lemmas.Nat.{le-div, div-add-mod', mul-le}
 use Rattle.std.specs.Option.{option_map}
 use Rattle.action_table.specs.declared.action.Action.{Action}
 use Rattle.action_table.specs.declared.action.Action.TheVariants.{ByregotsBlessing, TrainedFinesse, GreatStrides, Innovation, Veneration}
 use Rattle.action_table.specs.Table.{row_of}
 use Rattle.craft_numbers.specs.Gains.{bonus_of, progress_gain_of, quality_gain_of}
+use Rattle.combo_effects.specs.Touches.{quality_efficiency, iq_after}
+use Rattle.craft_state.specs.declared.Combo.TheVariants.{Basic}
 use Rattle.craft_settings.specs.Ranges.{SettingsFields}
-use Rattle.relaxed_moves.specs.Moves.{RelaxedFields, AreRelaxed, IsNoBetter, is_listed, has_stacks, is_move_of, move_efficiency, move_gain_of, move_iq, move_innovation, move_veneration, move_strides, move_progress, move_on_of, unit_of}
+use Rattle.relaxed_moves.specs.Moves.{RelaxedFields, AreRelaxed, IsNoBetter, is_listed, has_stacks, is_move_of, move_gain_of, move_innovation, move_veneration, move_strides, move_progress, move_on_of, unit_of, relax_of}
 use Rattle.relaxed_moves.specs.Optimum.{option_le, ArePriced, worth, best_plan}
 use Rattle.relaxed_moves.proofs.Greatest.{option_le-trans}
 use Rattle.relaxed_moves.proofs.Plans.{worth-nil, worth-cons, best_plan-upper, best_plan-least}
@@ -36,7 +39,7 @@ quality_gain-more base q q' iq iq' v v' w w' more stacks innovation strides =
     let whole : 100 + 10 * iq ≤ 100 + 10 * iq' = omega arith in
     div-more _ _ 1000000 (omega arith) (mul-le _ _ _ _ (mul-le _ _ _ _ (mul-le base q base q' (omega arith) more) whole) percent)
 
-efficiency-more : (g : SettingsFields) (n m : ℕ) (a : Action) → n ≤ m → move_efficiency g n a ≤ move_efficiency g m a
+efficiency-more : (g : SettingsFields) (n m : ℕ) (a : Action) → n ≤ m → quality_efficiency g.level n a ≤ quality_efficiency g.level m a
 efficiency-more g n m ByregotsBlessing more = omega arith
 efficiency-more g n m _ more = omega arith
 
@@ -56,7 +59,7 @@ bucket-more u b b' p p' positive less more =
     let whole : b' * u ≤ b * u = mul-le b' u b u less (omega arith) in
     div-more _ _ u positive (omega arith)
 
-iq-more : (g : SettingsFields) (n m : ℕ) (a : Action) → n ≤ m → move_iq g n a ≤ move_iq g m a
+iq-more : (g : SettingsFields) (n m : ℕ) (a : Action) → n ≤ m → iq_after g.level n Basic a ≤ iq_after g.level m Basic a
 iq-more g n m ByregotsBlessing more = omega arith
 iq-more g n m _ more = if_le (nat_le 11 g.level) _ _ _ _ (omega arith) more
 
@@ -90,7 +93,7 @@ move_on-no_better g grain x y a positive worse = record {
   muscle = off-more (nat_lt 0 (row_of a g.level).progress) x.muscle y.muscle worse.muscle;
 }
 
-iq_bound : (g : SettingsFields) (n : ℕ) (a : Action) → n ≤ 10 → move_iq g n a ≤ 10
+iq_bound : (g : SettingsFields) (n : ℕ) (a : Action) → n ≤ 10 → iq_after g.level n Basic a ≤ 10
 iq_bound g n ByregotsBlessing h = omega arith
 iq_bound g n _ h = grind arith
 
@@ -168,3 +171,8 @@ pub best_plan-no_better : (price : Action → ℕ) (g : SettingsFields) (grain b
     option_le (best_plan price g grain budget x) (best_plan price g grain budget' y)
 best_plan-no_better price g grain budget budget' x y priced positive more worse bounds =
     best_plan-least price g grain budget x _ (λ m. option_le-trans _ _ _ (worth-no_better price g grain budget budget' x y positive more worse bounds m) (best_plan-upper price g grain budget' y m priced))
+
+-- what the bounds see of a state keeps its bounds
+pub AreRelaxed-relax : (g : SettingsFields) (grain : ℕ) (s : StateFields) → AreEffects s.effects → AreRelaxed (relax_of g grain s)
+unfolding relax_of
+AreRelaxed-relax g grain s bounds = record { iq = bounds.iq; innovation = bounds.innovation; veneration = bounds.veneration }

@@ -1,5 +1,6 @@
 -- The greatest gain over plans: it is at least that of each plan, one plan has it, and how it follows from the first move.
 use Rattle.std.proofs.Common.{ℕ, Bool, true, false, List, [], ◌∷◌, Option, Some, None, ◌≡◌, ◌≤◌, ◌+◌, ◌-◌, ◌&&◌, ◌==◌, nat_le, length, refl, ◌∙◌, ap, subst, arith, if◌then◌else◌}
+use Rattle.plain_lemmas.proofs.Tests.{and_both}
 use Rattle.std.specs.Option.{option_map}
 use Rattle.action_table.specs.declared.action.Action.{Action}
 use Rattle.craft_settings.specs.Ranges.{SettingsFields}
@@ -7,15 +8,11 @@ use Rattle.relaxed_moves.specs.Moves.{RelaxedFields, is_move_of, move_gain_of, m
 use Rattle.relaxed_moves.specs.Optimum.{are_moves, last_of, gains_of, total, is_plan, worth, option_le, greatest, ArePriced, best_plan}
 use Rattle.relaxed_moves.proofs.Greatest.{greatest-upper, greatest-least, greatest-attained}
 
-both : (a b : Bool) → (a && b) ≡ true → (a ≡ true) × (b ≡ true)
-both true b h = (refl, h)
-both false b h = cc
-
 pub length_paid : (price : Action → ℕ) (g : SettingsFields) (grain : ℕ) (x : RelaxedFields) (m : List Action) → ArePriced price g →
     are_moves g grain x m ≡ true → length m ≤ total price m
 length_paid price g grain x [] priced h = omega arith
 length_paid price g grain x (a ∷ m) priced h =
-    let parts : (is_move_of g x a ≡ true) × (are_moves g grain (move_on_of g grain x a) m ≡ true) = both (is_move_of g x a) (are_moves g grain (move_on_of g grain x a) m) h in
+    let parts : (is_move_of g x a ≡ true) × (are_moves g grain (move_on_of g grain x a) m ≡ true) = and_both (is_move_of g x a) (are_moves g grain (move_on_of g grain x a) m) h in
     omega (arith, priced.each x a parts.0, length_paid price g grain (move_on_of g grain x a) m priced parts.1)
 
 pub affordable : (a b : ℕ) (c d : Bool) → (c && (nat_le a b && d)) ≡ true → (c ≡ true) × (a ≤ b)
@@ -101,6 +98,6 @@ map_le gain None b h = tt
 map_le gain (Some a) None h = absurd h
 map_le gain (Some a) (Some b) h = omega arith
 
-if_le : (c : Bool) (a b : Option ℕ) → option_le a b → option_le (if c then a else None) (if c then b else None)
+pub if_le : (c : Bool) (a b : Option ℕ) → option_le a b → option_le (if c then a else None) (if c then b else None)
 if_le true a b h = h
 if_le false a b h = tt

@@ -5,13 +5,14 @@ use Rattle.action_table.specs.declared.action.Action.{Action}
 use Rattle.action_table.specs.declared.action.Action.TheVariants.{ByregotsBlessing}
 use Rattle.action_table.specs.Table.{row_of}
 use Rattle.craft_numbers.specs.Gains.{bonus_of, quality_gain_of}
+use Rattle.combo_effects.specs.Touches.{quality_efficiency}
 use Rattle.craft_settings.specs.Ranges.{SettingsFields, AreSettings}
-use Rattle.relaxed_moves.specs.Moves.{RelaxedFields, AreRelaxed, move_efficiency, move_gain_of, move_on_of}
+use Rattle.relaxed_moves.specs.Moves.{RelaxedFields, AreRelaxed, move_gain_of, move_on_of}
 use Rattle.relaxed_moves.specs.Optimum.{are_moves, last_of, gains_of, total, is_plan, worth, ArePriced, best_plan, option_le}
 use Rattle.relaxed_moves.proofs.Plans.{length_paid, affordable, best_plan-least}
 use Rattle.relaxed_moves.proofs.Order.{AreRelaxed-move_on}
 
-efficiency_small : (g : SettingsFields) (n : ℕ) (a : Action) → n ≤ 10 → move_efficiency g n a ≤ 400
+efficiency_small : (g : SettingsFields) (n : ℕ) (a : Action) → n ≤ 10 → quality_efficiency g.level n a ≤ 400
 efficiency_small g n ByregotsBlessing h = omega arith
 efficiency_small g n _ h = omega arith
 
@@ -33,7 +34,7 @@ if_small false n h = omega arith
 gain_small : (g : SettingsFields) (x : RelaxedFields) (a : Action) → AreSettings g → AreRelaxed x → move_gain_of g x a ≤ 100000
 unfolding move_gain_of
 gain_small g x a settings bounds =
-    if_small (nat_lt 0 (row_of a g.level).quality) _ (gain_by g.base_quality (move_efficiency g x.iq a) x.iq _ _ settings.base_quality.high (efficiency_small g x.iq a bounds.iq) bounds.iq)
+    if_small (nat_lt 0 (row_of a g.level).quality) _ (gain_by g.base_quality (quality_efficiency g.level x.iq a) x.iq _ _ settings.base_quality.high (efficiency_small g x.iq a bounds.iq) bounds.iq)
 
 gains_small : (g : SettingsFields) (grain : ℕ) (x : RelaxedFields) (m : List Action) → AreSettings g → AreRelaxed x → gains_of g grain x m ≤ 100000 * length m
 gains_small g grain x [] settings bounds = omega arith

@@ -1,9 +1,12 @@
 -- Relaxed states and moves: what a craft can do at most, without order, combos and durability.
-use Rattle.std.specs.Prelude.{ℕ, Bool, true, false, ◌≤◌, ◌≡◌, ◌+◌, ◌-◌, ◌*◌, ◌/◌, ◌&&◌, ◌||◌, ◌==◌, nat_lt, nat_le, min, if◌then◌else◌}
+use Rattle.std.specs.Prelude.{ℕ, Bool, true, false, ◌≤◌, ◌≡◌, ◌+◌, ◌-◌, ◌*◌, ◌/◌, ◌&&◌, ◌||◌, ◌==◌, nat_lt, if◌then◌else◌}
 use Rattle.action_table.specs.declared.action.Action.{Action}
-use Rattle.action_table.specs.declared.action.Action.TheVariants.{Veneration, Innovation, GreatStrides, MuscleMemory, Reflect, ByregotsBlessing, TrainedFinesse, RefinedTouch}
+use Rattle.action_table.specs.declared.action.Action.TheVariants.{Veneration, Innovation, GreatStrides, MuscleMemory, Reflect, ByregotsBlessing, TrainedFinesse}
 use Rattle.action_table.specs.Table.{row_of}
 use Rattle.craft_numbers.specs.Gains.{progress_gain_of, quality_gain_of}
+use Rattle.combo_effects.specs.Combos.{duration_of}
+use Rattle.combo_effects.specs.Touches.{quality_efficiency, iq_after}
+use Rattle.craft_state.specs.declared.Combo.TheVariants.{Basic}
 use Rattle.craft_state.specs.Craft.{StateFields}
 use Rattle.craft_settings.specs.Ranges.{SettingsFields}
 use Rattle.craft_settings.specs.Rules.{is_allowed}
@@ -66,16 +69,11 @@ relax_of g grain s = record {
   muscle = nat_lt 0 s.effects.muscle;
 }
 
--- the quality efficiency of a move
-abbrev pub move_efficiency : SettingsFields → ℕ → Action → ℕ
-move_efficiency g iq ByregotsBlessing = 100 + 20 * iq
-move_efficiency g iq action = (row_of action g.level).quality
-
 -- the quality that a move gains
 unfoldable pub move_gain_of : SettingsFields → RelaxedFields → Action → ℕ
 move_gain_of g x action =
     if nat_lt 0 (row_of action g.level).quality
-    then quality_gain_of g.base_quality (move_efficiency g x.iq action) x.iq (nat_lt 0 x.innovation) x.strides
+    then quality_gain_of g.base_quality (quality_efficiency g.level x.iq action) x.iq (nat_lt 0 x.innovation) x.strides
     else 0
 
 -- the progress that a move gains; Groundwork always has its whole efficiency
@@ -83,33 +81,23 @@ abbrev pub move_progress : SettingsFields → RelaxedFields → Action → ℕ
 move_progress g x action =
     progress_gain_of g.base_progress (row_of action g.level).progress (nat_lt 0 x.veneration) x.muscle
 
--- the stacks that a touch adds
-abbrev pub move_stacks : SettingsFields → Action → ℕ
-move_stacks g RefinedTouch = 2
-move_stacks g action = (row_of action g.level).stacks
-
--- the stacks after a touch
-abbrev pub move_iq : SettingsFields → ℕ → Action → ℕ
-move_iq g iq ByregotsBlessing = 0
-move_iq g iq action = if nat_le 11 g.level then min 10 (iq + move_stacks g action) else iq
-
 abbrev pub move_innovation : ℕ → Action → ℕ
-move_innovation n Innovation = 4
+move_innovation n Innovation = duration_of Innovation
 move_innovation n _ = n - 1
 
 abbrev pub move_veneration : ℕ → Action → ℕ
-move_veneration n Veneration = 4
+move_veneration n Veneration = duration_of Veneration
 move_veneration n _ = n - 1
 
 abbrev pub move_strides : SettingsFields → Bool → Action → Bool
 move_strides g on GreatStrides = true
 move_strides g on action = if nat_lt 0 (row_of action g.level).quality then false else on
 
--- the relaxed state after a move; a bucket is rounded down
+-- the relaxed state after a move; a bucket is rounded down, and a touch adds stacks as after a Basic Touch
 unfoldable pub move_on_of : SettingsFields → ℕ → RelaxedFields → Action → RelaxedFields
 move_on_of g grain x action = record {
   bucket = (x.bucket * unit_of g grain - move_progress g x action) / unit_of g grain;
-  iq = if nat_lt 0 (row_of action g.level).quality then move_iq g x.iq action else x.iq;
+  iq = if nat_lt 0 (row_of action g.level).quality then iq_after g.level x.iq Basic action else x.iq;
   innovation = move_innovation x.innovation action;
   veneration = move_veneration x.veneration action;
   strides = move_strides g x.strides action;

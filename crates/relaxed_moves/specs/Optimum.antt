@@ -7,7 +7,7 @@ use Rattle.craft_settings.specs.Rules.{cap_of}
 use Rattle.craft_state.specs.Craft.{StateFields}
 use Rattle.relaxed_moves.specs.Budget.{cost_of, potential_of}
 use Rattle.relaxed_moves.specs.Moves.{RelaxedFields, is_move_of, move_gain_of, move_on_of, relax_of}
-use Rattle.relaxed_moves.specs.Places.{most_moves}
+use Rattle.relaxed_moves.specs.declared.places.TheConstants.{MOST_MOVES}
 
 -- each action of the list is a relaxed move in its turn
 abbrev pub are_moves : SettingsFields → ℕ → RelaxedFields → List Action → Bool
@@ -103,4 +103,4 @@ limit_of g grain s = capped g s (opt g grain (potential_of g s) (relax_of g grai
 -- the same with so many more steps, where the step table has them
 unfoldable pub within_of : SettingsFields → ℕ → StateFields → ℕ → Option ℕ
 within_of g grain s steps =
-    if nat_le steps most_moves then capped g s (reach g grain steps (relax_of g grain s)) else Some (cap_of g)
+    if nat_le steps MOST_MOVES then capped g s (reach g grain steps (relax_of g grain s)) else Some (cap_of g)

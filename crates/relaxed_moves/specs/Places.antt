@@ -3,28 +3,17 @@ use Rattle.std.specs.Prelude.{ℕ, Bool, ◌+◌, ◌*◌, ◌/◌, ◌%◌, ◌
 use Rattle.craft_settings.specs.Ranges.{SettingsFields}
 use Rattle.relaxed_moves.specs.Budget.{start_potential_of}
 use Rattle.relaxed_moves.specs.Moves.{RelaxedFields}
-
--- the greatest budget of a quality table
-abbrev pub most_budget : ℕ
-most_budget = 1378
-
--- the greatest number of moves of the step table
-abbrev pub most_moves : ℕ
-most_moves = 63
-
--- the number of relaxed states with one bucket: 11 * 5 * 5 * 2 * 2
-abbrev pub bucket_states : ℕ
-bucket_states = 1100
+use Rattle.relaxed_moves.specs.declared.places.TheConstants.{MOST_MOVES, BUCKET_STATES}
 
 -- the number of places for so many first numbers
 abbrev pub place_count : (grain firsts : ℕ) → ℕ
-place_count grain firsts = firsts * (grain + 1) * bucket_states
+place_count grain firsts = firsts * (grain + 1) * BUCKET_STATES
 
 abbrev pub quality_size_of : SettingsFields → ℕ → ℕ
 quality_size_of g grain = place_count grain (start_potential_of g + 1)
 
 abbrev pub step_size_of : ℕ → ℕ
-step_size_of grain = place_count grain (most_moves + 1)
+step_size_of grain = place_count grain (MOST_MOVES + 1)
 
 abbrev pub bit : Bool → ℕ
 bit on = if on then 1 else 0
@@ -40,15 +29,15 @@ index_of grain first x =
 
 -- the first number of a place
 abbrev pub first_at : (grain index : ℕ) → ℕ
-first_at grain index = index / bucket_states / (grain + 1)
+first_at grain index = index / BUCKET_STATES / (grain + 1)
 
 -- the relaxed state of a place
 unfoldable pub state_at : (grain index : ℕ) → RelaxedFields
 state_at grain index = record {
-  bucket = index / bucket_states % (grain + 1);
-  iq = index % bucket_states / 100;
-  innovation = index % bucket_states / 20 % 5;
-  veneration = index % bucket_states / 4 % 5;
-  strides = index % bucket_states / 2 % 2 == 1;
-  muscle = index % bucket_states % 2 == 1;
+  bucket = index / BUCKET_STATES % (grain + 1);
+  iq = index % BUCKET_STATES / 100;
+  innovation = index % BUCKET_STATES / 20 % 5;
+  veneration = index % BUCKET_STATES / 4 % 5;
+  strides = index % BUCKET_STATES / 2 % 2 == 1;
+  muscle = index % BUCKET_STATES % 2 == 1;
 }

@@ -1,7 +1,7 @@
 ghost use Rattle.std.specs.Prelude.{◌≡◌, ◌≤◌, ◌*◌, IsTrue, if◌then◌else◌};
 ghost use Rattle.relaxed_moves.specs.Budget.{rho_of, sigma_of, slack_of, AreWeights, is_spent, potential_of, start_potential_of, cost_of};
 ghost use Rattle.relaxed_moves.specs.Moves.{is_listed};
-ghost use Rattle.relaxed_moves.specs.Places.{most_budget};
+ghost use Rattle.relaxed_moves.specs.declared.places.TheConstants.{MOST_BUDGET};
 
 use crate::kinds::Weights;
 use action_table::{Action, row};
@@ -108,7 +108,7 @@ fn spare(perfection: Perfection, rho: u32) -> u32
 #[tactic(auto, using(crate::proofs::Products::products), unfolding(crate::specs::Budget::start_potential_of))]
 pub fn start_potential(g: &Settings) -> u32
     ensures value { result ≡ start_potential_of g.now }
-    ensures high { result ≤ most_budget }
+    ensures high { result ≤ MOST_BUDGET }
 {
     let weights = weights(g);
     let spare = if allowed(g, Action::TrainedPerfection) {

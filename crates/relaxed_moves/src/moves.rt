@@ -1,12 +1,13 @@
 ghost use Rattle.std.specs.Prelude.{◌≡◌, ◌≤◌, ◌-◌, ◌*◌, ◌/◌, IsTrue, true, nat_lt};
 ghost use Rattle.craft_numbers.specs.Gains.{progress_gain_of};
-ghost use Rattle.relaxed_moves.specs.Moves.{is_listed, is_move_of, unit_of, relax_of, move_gain_of, move_iq, move_on_of};
+ghost use Rattle.relaxed_moves.specs.Moves.{is_listed, is_move_of, unit_of, relax_of, move_gain_of, move_on_of};
 
 use crate::kinds::Relaxed;
 use action_table::{Action, row};
-use craft_numbers::{cap_add, progress_gain, quality_gain};
+use combo_effects::{duration, quality_efficiency, stacks_after};
+use craft_numbers::{progress_gain, quality_gain};
 use craft_settings::{Settings, allowed};
-use craft_state::State;
+use craft_state::{Combo, State};
 
 /// Whether an action is in the list of relaxed moves, whatever the state.
 pub fn is_listed(g: &Settings, action: Action) -> bool
@@ -87,17 +88,12 @@ pub fn move_gain(g: &Settings, x: &Relaxed, action: Action) -> u32
     ensures value { result ≡ move_gain_of g.now x.now action }
     ensures range { result ≤ 100000 }
 {
-    let row = row(action, g.level);
-    if row.quality == 0 {
+    if row(action, g.level).quality == 0 {
         return 0;
     }
-    let efficiency = match action {
-        Action::ByregotsBlessing => 100 + 20 * x.iq,
-        _ => row.quality,
-    };
     quality_gain(
         g.base_quality,
-        efficiency,
+        quality_efficiency(action, g.level, x.iq),
         x.iq,
         x.innovation > 0,
         x.strides,
@@ -116,7 +112,8 @@ pub fn move_on(g: &Settings, grain: u32, x: &Relaxed, action: Action) -> Relaxed
     move_on_by(g, grain, unit(g, grain), x, action)
 }
 
-/// The relaxed state after a move, by the progress of a bucket.
+/// The relaxed state after a move, by the progress of a bucket. A touch always adds as many stacks as after a Basic
+/// Touch.
 #[tactic(auto, unfolding(crate::specs::Moves::move_on_of))]
 pub fn move_on_by(g: &Settings, grain: u32, unit: u32, x: &Relaxed, action: Action) -> Relaxed
     requires low { 1 ≤ grain }
@@ -131,16 +128,16 @@ pub fn move_on_by(g: &Settings, grain: u32, unit: u32, x: &Relaxed, action: Acti
     Relaxed {
         bucket: next_bucket(g, grain, unit, x, row.progress),
         iq: if row.quality > 0 {
-            next_iq(g, x.iq, action)
+            stacks_after(action, g.level, x.iq, Combo::Basic)
         } else {
             x.iq
         },
         innovation: match action {
-            Action::Innovation => 4,
+            Action::Innovation => duration(action),
             _ => x.innovation.saturating_sub(1),
         },
         veneration: match action {
-            Action::Veneration => 4,
+            Action::Veneration => duration(action),
             _ => x.veneration.saturating_sub(1),
         },
         strides: match action {
@@ -160,7 +157,8 @@ fn next_bucket(g: &Settings, grain: u32, unit: u32, x: &Relaxed, progress: u32) 
     requires unit { unit ≡ unit_of g.now grain }
     requires bucket { x.now.bucket ≤ grain }
     requires progress { progress ≤ 400 }
-    ensures value { result ≡ (x.now.bucket * unit_of g.now grain - progress_gain_of g.now.base_progress progress (nat_lt 0 x.now.veneration) x.now.muscle) / unit_of g.now grain }
+    ensures value { result ≡ (x.now.bucket * unit_of g.now grain - progress_gain_of g.now.base_progress progress
+        (nat_lt 0 x.now.veneration) x.now.muscle) / unit_of g.now grain }
     ensures falls { result ≤ x.now.bucket }
 {
     let base = g.base_progress;
@@ -169,22 +167,4 @@ fn next_bucket(g: &Settings, grain: u32, unit: u32, x: &Relaxed, progress: u32) 
     }
     let gain = progress_gain(base, progress, x.veneration > 0, x.muscle);
     (x.bucket * unit).saturating_sub(gain) / unit
-}
-
-// The stacks after a touch.
-fn next_iq(g: &Settings, iq: u32, action: Action) -> u32
-    requires { iq ≤ 10 }
-    ensures value { result ≡ move_iq g.now iq action }
-    ensures range { result ≤ 10 }
-{
-    let stacks = match action {
-        Action::ByregotsBlessing => return 0,
-        Action::RefinedTouch => 2,
-        _ => row(action, g.level).stacks,
-    };
-    if g.level >= 11 {
-        cap_add(iq, stacks, 10)
-    } else {
-        iq
-    }
 }

@@ -2,15 +2,21 @@ ghost use Rattle.std.specs.Prelude.{ℕ, ◌≡◌, ◌≤◌, ◌<◌, ◌+◌}
 ghost use Rattle.relaxed_moves.specs.Budget.{start_potential_of};
 ghost use Rattle.relaxed_moves.specs.Columns.{at_bucket};
 ghost use Rattle.relaxed_moves.specs.Moves.{RelaxedFields, AreRelaxed};
-ghost use Rattle.relaxed_moves.specs.Places.{most_budget, place_count, quality_size_of, step_size_of, index_of, first_at, state_at};
+ghost use Rattle.relaxed_moves.specs.Places.{place_count, quality_size_of, step_size_of, index_of, first_at, state_at};
 
 use crate::budget::start_potential;
 use crate::kinds::Relaxed;
 use craft_settings::Settings;
 
-// The number of relaxed states with one bucket: 11 counts of stacks, 5 steps each of Innovation and
-// Veneration, and two that are on or off.
-const BUCKET_STATES: usize = 1100;
+/// The greatest budget of a quality table, in CP.
+pub const MOST_BUDGET: u32 = 1378;
+
+/// The greatest number of moves of the step table.
+pub const MOST_MOVES: u32 = 63;
+
+/// The number of relaxed states with one bucket: 11 counts of stacks, 5 steps each of Innovation and Veneration, and
+/// two effects that are on or off.
+pub const BUCKET_STATES: usize = 1100;
 
 /// The number of places of the quality table, whose first number is a budget up to `start_potential`.
 #[tactic(auto, using(crate::proofs::Indices::indices))]
@@ -25,21 +31,21 @@ pub fn quality_size(g: &Settings, grain: u32) -> usize
     (budget * buckets + buckets) * BUCKET_STATES
 }
 
-/// The number of places of the step table, whose first number is a number of moves up to 63.
+/// The number of places of the step table, whose first number is a number of moves up to `MOST_MOVES`.
 pub fn step_size(grain: u32) -> usize
     requires low { 1 ≤ grain }
     requires high { grain ≤ 64 }
     ensures value { result ≡ step_size_of grain }
     ensures high { result ≤ 4576000 }
 {
-    64 * (grain as usize + 1) * BUCKET_STATES
+    (MOST_MOVES as usize + 1) * (grain as usize + 1) * BUCKET_STATES
 }
 
-/// The place of a relaxed state in a table, beside a budget of at most 1378 or a number of moves.
+/// The place of a relaxed state in a table, beside a budget of at most `MOST_BUDGET` or a number of moves.
 pub fn index(grain: u32, first: u32, x: &Relaxed) -> usize
     requires low { 1 ≤ grain }
     requires high { grain ≤ 64 }
-    requires first { first ≤ most_budget }
+    requires first { first ≤ MOST_BUDGET }
     requires bucket { x.now.bucket ≤ grain }
     ensures value { result ≡ index_of grain first x.now }
     ensures below { result < place_count grain (first + 1) }
@@ -54,7 +60,7 @@ pub fn index(grain: u32, first: u32, x: &Relaxed) -> usize
 fn place(grain: u32, first: u32, x: &Relaxed) -> usize
     requires low { 1 ≤ grain }
     requires high { grain ≤ 64 }
-    requires first { first ≤ most_budget }
+    requires first { first ≤ MOST_BUDGET }
     requires bucket { x.now.bucket ≤ grain }
     ensures value { result ≡ index_of grain first x.now }
     ensures below { result < place_count grain (first + 1) }
@@ -73,11 +79,11 @@ pub fn at_bucket(x: &Relaxed, bucket: u32) -> Relaxed
     Relaxed { bucket, ..*x }
 }
 
-/// The place of bucket 0 of a column: of a budget of at most 1378 or a number of moves, and the effects of `x`.
+/// The place of bucket 0 of a column: of a budget of at most `MOST_BUDGET` or a number of moves, and the effects of `x`.
 pub fn column_place(grain: u32, first: u32, x: &Relaxed) -> usize
     requires low { 1 ≤ grain }
     requires high { grain ≤ 64 }
-    requires first { first ≤ most_budget }
+    requires first { first ≤ MOST_BUDGET }
     ensures { result ≡ index_of grain first (at_bucket x.now 0) }
 {
     index(grain, first, &at_bucket(x, 0))
@@ -87,7 +93,7 @@ pub fn column_place(grain: u32, first: u32, x: &Relaxed) -> usize
 pub fn bucket_place(grain: u32, first: u32, x: &Relaxed, bottom: usize, bucket: u32) -> usize
     requires low { 1 ≤ grain }
     requires high { grain ≤ 64 }
-    requires first { first ≤ most_budget }
+    requires first { first ≤ MOST_BUDGET }
     requires bottom { bottom ≡ index_of grain first (at_bucket x.now 0) }
     requires bucket { bucket ≤ grain }
     ensures value { result ≡ index_of grain first (at_bucket x.now bucket) }
@@ -103,13 +109,14 @@ pub fn bucket_place(grain: u32, first: u32, x: &Relaxed, bottom: usize, bucket: 
 pub fn of_index(grain: u32, index: usize) -> (u32, Relaxed)
     requires low { 1 ≤ grain }
     requires high { grain ≤ 64 }
-    requires below { index < place_count grain (most_budget + 1) }
+    requires below { index < place_count grain (MOST_BUDGET + 1) }
     ensures first_value { result.0 ≡ first_at grain index }
     ensures state_value { result.1 ≡ state_at grain index }
-    ensures first { result.0 ≤ most_budget }
+    ensures first { result.0 ≤ MOST_BUDGET }
     ensures bucket { result.1.bucket ≤ grain }
     ensures back { index_of grain result.0 result.1 ≡ index }
-    ensures only { (first : ℕ) (x : RelaxedFields) → AreRelaxed x → x.bucket ≤ grain → index_of grain first x ≡ index → (first ≡ result.0) × (x ≡ result.1) }
+    ensures only { (first : ℕ) (x : RelaxedFields) → AreRelaxed x → x.bucket ≤ grain → index_of grain first x ≡ index →
+        (first ≡ result.0) × (x ≡ result.1) }
 {
     parts(grain, index)
 }
@@ -119,10 +126,10 @@ pub fn of_index(grain: u32, index: usize) -> (u32, Relaxed)
 fn parts(grain: u32, index: usize) -> (u32, Relaxed)
     requires low { 1 ≤ grain }
     requires high { grain ≤ 64 }
-    requires below { index < place_count grain (most_budget + 1) }
+    requires below { index < place_count grain (MOST_BUDGET + 1) }
     ensures first_value { result.0 ≡ first_at grain index }
     ensures state_value { result.1 ≡ state_at grain index }
-    ensures first { result.0 ≤ most_budget }
+    ensures first { result.0 ≤ MOST_BUDGET }
     ensures bucket { result.1.bucket ≤ grain }
     ensures bounds { AreRelaxed result.1 }
 {

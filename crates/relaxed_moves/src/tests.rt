@@ -5,48 +5,7 @@ use action_table::Action;
 use craft_settings::Settings;
 use craft_state::{Combo, Effects, Perfection, State};
 use std::test::Fail;
-
-const SMALL: Settings = Settings {
-    level: 26,
-    cp: 54,
-    durability: 20,
-    progress: 150,
-    quality: 500,
-    initial: 0,
-    base_progress: 100,
-    base_quality: 100,
-    forbidden: 33554432,
-    target: 500,
-    backload: false,
-};
-
-const ORDINARY: Settings = Settings {
-    level: 50,
-    cp: 180,
-    durability: 40,
-    progress: 150,
-    quality: 400,
-    initial: 0,
-    base_progress: 50,
-    base_quality: 101,
-    forbidden: 33554432,
-    target: 400,
-    backload: false,
-};
-
-const LARGE: Settings = Settings {
-    level: 100,
-    cp: 600,
-    durability: 70,
-    progress: 7000,
-    quality: 15000,
-    initial: 0,
-    base_progress: 290,
-    base_quality: 355,
-    forbidden: 33554432,
-    target: 15000,
-    backload: false,
-};
+use test_crafts::{FOUR_STEPS, LARGE, ORDINARY};
 
 const NONE: Relaxed = Relaxed {
     bucket: 0,
@@ -89,7 +48,7 @@ fn state(cp: u32, durability: u32, progress: u32, effects: Effects) -> State
 #[test]
 fn budgets(rt: HostRuntime) -> Result<(), Fail> {
     assert_eq!(rt;
-        weights(&SMALL),
+        weights(&FOUR_STEPS),
         Weights {
             rho: 14,
             sigma: 14,
@@ -112,13 +71,13 @@ fn budgets(rt: HostRuntime) -> Result<(), Fail> {
             slack: 24
         }
     );
-    assert_eq!(rt; start_potential(&SMALL), 124);
+    assert_eq!(rt; start_potential(&FOUR_STEPS), 124);
     assert_eq!(rt; start_potential(&ORDINARY), 306);
     assert_eq!(rt; start_potential(&LARGE), 768);
     assert_eq!(rt; quality_size(&LARGE, 16), 14380300);
     assert_eq!(rt; step_size(16), 1196800);
-    assert_eq!(rt; potential(&SMALL, &state(54, 20, 0, PLAIN)), 124);
-    assert_eq!(rt; potential(&SMALL, &state(36, 20, 0, PLAIN)), 106);
+    assert_eq!(rt; potential(&FOUR_STEPS, &state(54, 20, 0, PLAIN)), 124);
+    assert_eq!(rt; potential(&FOUR_STEPS, &state(36, 20, 0, PLAIN)), 106);
     Ok(())
 }
 
@@ -126,13 +85,13 @@ fn budgets(rt: HostRuntime) -> Result<(), Fail> {
 #[test]
 fn scales(rt: HostRuntime) {
     for (grain, small, large) in [(1, 150, 7000), (7, 22, 1000), (16, 10, 438), (64, 3, 110)] {
-        assert_eq!(rt; unit(&SMALL, grain), small);
+        assert_eq!(rt; unit(&FOUR_STEPS, grain), small);
         assert_eq!(rt; unit(&LARGE, grain), large);
         let scale = Scale::new(&LARGE, grain);
         assert_eq!(rt; scale.unit, large);
         assert_eq!(rt; scale.weights, weights(&LARGE));
     }
-    assert_eq!(rt; Scale::new(&SMALL, 16).weights.rho, 14);
+    assert_eq!(rt; Scale::new(&FOUR_STEPS, 16).weights.rho, 14);
     assert_eq!(rt; Scale::new(&LARGE, 16).weights.slack, 24);
 }
 

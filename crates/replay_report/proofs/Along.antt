@@ -1,5 +1,6 @@
 -- The limits along a macro.
 use Rattle.std.proofs.Common.{◌≡◌, ◌<◌, ◌≤◌, ◌+◌, ◌++◌, ◌∷◌, ◌∙◌, [], zero, suc, ℕ, Bool, List, Option, Some, true, false, refl, sym, ap, subst, arith, take, length, slice_get, get_or, nat_lt, true≢false, ◌||◌}
+use Rattle.step_rules.proofs.Runs.{next_legal}
 use Rattle.std.proofs.lemmas.List.{take_all}
 use Rattle.action_table.specs.declared.action.Action.{Action}
 use Rattle.action_table.specs.declared.action.Action.TheVariants.{BasicSynthesis}
@@ -10,8 +11,7 @@ use Rattle.step_rules.specs.Macro.{Completes, counted}
 use Rattle.step_rules.specs.Run.{run_of}
 use Rattle.step_rules.proofs.LegalFacts.{legal_facts}
 use Rattle.relaxed_moves.specs.Optimum.{limit_of}
-use Rattle.replay_report.specs.Limits.{AreLimited, AreLimits, IsLimited}
-use Rattle.replay_report.proofs.Turns.{next_legal}
+use Rattle.replay_report.specs.Limits.{AreLimited, AreLimitsAlong, IsLimited}
 
 -- the number of a state
 pub record IsNumber (g : SettingsFields) (grain : ℕ) (s : StateFields) (number : Option ℕ) : Type 0 where
@@ -85,7 +85,7 @@ numbers_more g grain m count numbers number s as_many before ran is place t insi
 
 -- all numbers are the limits
 pub are_limits : (g : SettingsFields) (grain : ℕ) (m : List Action) (numbers : List ℕ) → Completes g (start_of g) m → length numbers ≡ length m
-    → AreNumbers g grain m (length m) numbers → AreLimits g grain m numbers
+    → AreNumbers g grain m (length m) numbers → AreLimitsAlong g grain m numbers
 are_limits g grain m numbers completes as_many each = record {
   as_many = as_many;
   before_last = λ place s before ran. sym ((each place s (omega arith) ran).going (before_last_going g m (place + 1) s before completes ran));

@@ -1,10 +1,13 @@
 -- A list that has a score completes the craft.
-use Rattle.std.proofs.Common.{◌≡◌, List, Option, Some, None, arith, refl}
+use Rattle.std.proofs.Common.{◌≡◌, ◌≤◌, length, List, Option, Some, None, arith, refl}
 use Rattle.action_table.specs.declared.action.Action.{Action}
 use Rattle.craft_state.specs.Craft.{StateFields}
-use Rattle.craft_settings.specs.Ranges.{SettingsFields}
+use Rattle.craft_settings.specs.Ranges.{SettingsFields, AreSettings}
 use Rattle.step_rules.specs.Macro.{Completes}
+use Rattle.step_rules.specs.Legality.{start_of}
 use Rattle.step_rules.specs.Run.{run_of}
+use Rattle.step_rules.specs.declared.legality.TheConstants.{MOST_STEPS}
+use Rattle.step_rules.proofs.Runs.{length-macro}
 use Rattle.macro_order.specs.declared.scores.Score.{Score}
 use Rattle.macro_order.specs.Order.{score_from, scored}
 
@@ -15,3 +18,7 @@ completes-scored g from m score e =
       | None ↦ λ ran h. cc
       | Some last ↦ λ ran h. record { last = last; ran = ran; complete = grind arith }
     ] refl e
+
+-- it has no more actions than the most
+pub at_most : (g : SettingsFields) (m : List Action) → AreSettings g → Completes g (start_of g) m → length m ≤ MOST_STEPS
+at_most g m settings whole = length-macro g whole.last m settings whole.ran

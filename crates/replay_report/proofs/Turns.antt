@@ -15,18 +15,6 @@ use Rattle.replay_report.specs.Lines.{table_row}
 use Rattle.replay_report.specs.Report.{shown, step_line}
 use Rattle.replay_report.specs.declared.style.Report.{Report}
 
--- each action of a macro is legal in its turn
-pub next_legal : (g : SettingsFields) (state : StateFields) (actions : List Action) (place : ℕ) (d : Action) → place < length actions →
-    Completes g (start_of g) actions → run_of g (start_of g) (take place actions) ≡ Some state → is_legal g state (get_or actions place d) ≡ true
-next_legal g state actions place d inside completes ran =
-    elim (is_legal g state (get_or actions place d)) as (λ b. is_legal g state (get_or actions place d) ≡ b → b ≡ true) [
-      | true ↦ λ h. refl
-      | false ↦ λ h.
-          let stopped : run_of g (start_of g) actions ≡ None = run_of-stopped g (start_of g) state actions place (get_or actions place d) ran (slice_get-get_or actions place d inside) h in
-          let ended = completes.ran in
-          cc
-    ] refl
-
 -- the line of the action at a place goes over from what is left to what is written
 pub table_more : (g : SettingsFields) (style : Report) (limits : List ℕ) (state : StateFields) (actions : List Action) (place : ℕ) (d : Action) (limit : Option ℕ) (text more whole : List ℕ) → place < length actions →
     run_of g (start_of g) (take (place + 1) actions) ≡ Some state → limit ≡ shown style limits place →

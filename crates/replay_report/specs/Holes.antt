@@ -14,4 +14,5 @@ text_hole width text = padded (format_spec 32 1 0 width (2 ^ 64 - 1)) text
 -- the columns of a line of the table
 abbrev pub column_holes : ℕ → List ℕ → (progress quality durability cp : ℕ) → List ℕ
 column_holes number name progress quality durability cp =
-    concat (number_hole 3 number ∷ codes " " ∷ text_hole 20 name ∷ number_hole 7 progress ∷ number_hole 7 quality ∷ number_hole 4 durability ∷ number_hole 5 cp ∷ [])
+    concat (number_hole 3 number ∷ codes " " ∷ text_hole 20 name ∷ number_hole 7 progress ∷ number_hole 7 quality
+    ∷ number_hole 4 durability ∷ number_hole 5 cp ∷ [])

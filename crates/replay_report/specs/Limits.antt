@@ -18,16 +18,19 @@ pub record IsLimited (g : SettingsFields) (grain : ℕ) (s : StateFields) : Type
 
 -- so has each prefix, of one action or more, that leaves the craft going
 pub record AreLimited (g : SettingsFields) (grain : ℕ) (m : List Action) : Type 0 where
-  pub each : (count : ℕ) (s : StateFields) → 1 ≤ count → run_of g (start_of g) (take count m) ≡ Some s → is_over g s ≡ false → IsLimited g grain s
+  pub each : (count : ℕ) (s : StateFields) → 1 ≤ count → run_of g (start_of g) (take count m) ≡ Some s → is_over g s ≡ false →
+      IsLimited g grain s
 
 -- one number for each action: the limit after it, and after the last the quality that counts
-pub record AreLimits (g : SettingsFields) (grain : ℕ) (m : List Action) (limits : List ℕ) : Type 0 where
+pub record AreLimitsAlong (g : SettingsFields) (grain : ℕ) (m : List Action) (limits : List ℕ) : Type 0 where
   pub as_many : length limits ≡ length m
-  pub before_last : (place : ℕ) (s : StateFields) → place + 1 < length m → run_of g (start_of g) (take (place + 1) m) ≡ Some s → slice_get limits place ≡ limit_of g grain s
-  pub at_last : (place : ℕ) (s : StateFields) → place + 1 ≡ length m → run_of g (start_of g) m ≡ Some s → slice_get limits place ≡ Some (counted g s)
+  pub before_last : (place : ℕ) (s : StateFields) → place + 1 < length m → run_of g (start_of g) (take (place + 1) m) ≡ Some s →
+      slice_get limits place ≡ limit_of g grain s
+  pub at_last : (place : ℕ) (s : StateFields) → place + 1 ≡ length m → run_of g (start_of g) m ≡ Some s →
+      slice_get limits place ≡ Some (counted g s)
 
 -- the numbers that a report in this style reads
 abbrev pub AreLimitsFor : SettingsFields → ℕ → Report → List Action → List ℕ → Type 0
 AreLimitsFor g grain Plain m limits = ⊤
-AreLimitsFor g grain Limits m limits = AreLimits g grain m limits
+AreLimitsFor g grain Limits m limits = AreLimitsAlong g grain m limits
 AreLimitsFor g grain Levels m limits = ⊤

@@ -12,11 +12,12 @@ use Rattle.replay_report.specs.Columns.{left, right}
 -- the first line, by its numbers
 abbrev pub numbers_line : (steps seconds progress quality most : ℕ) → List ℕ
 numbers_line steps seconds progress quality most =
-    concat (codes "steps " ∷ decimal steps ∷ codes " seconds " ∷ decimal seconds ∷ codes " progress " ∷ decimal progress ∷ codes "/" ∷ decimal progress ∷ codes " quality " ∷ decimal quality ∷ codes "/" ∷ decimal most ∷ codes "\n" ∷ [])
+    concat (codes "steps " ∷ decimal steps ∷ codes " seconds " ∷ decimal seconds ∷ codes " progress " ∷ decimal progress
+    ∷ codes "/" ∷ decimal progress ∷ codes " quality " ∷ decimal quality ∷ codes "/" ∷ decimal most ∷ codes "\n" ∷ [])
 
 -- the first line for actions that end in a state
 abbrev pub head_of : SettingsFields → List Action → StateFields → List ℕ
-head_of g m last = numbers_line (length m) (seconds_of g m) g.progress last.quality g.quality
+head_of g m last = numbers_line (length m) (seconds_of m) g.progress last.quality g.quality
 
 -- the line of how many prefixes the levels kept together
 abbrev pub kept_line : List ℕ → List ℕ
@@ -29,7 +30,8 @@ replay_line = codes "replay\n"
 -- the columns of a line: the number of the step, the action and the state after it
 abbrev pub columns_of : ℕ → Action → StateFields → List ℕ
 columns_of number action after =
-    concat (right 3 number ∷ codes " " ∷ left 20 (display_name_of action) ∷ right 7 after.progress ∷ right 7 after.quality ∷ right 4 after.durability ∷ right 5 after.cp ∷ [])
+    concat (right 3 number ∷ codes " " ∷ left 20 (display_name_of action) ∷ right 7 after.progress ∷ right 7 after.quality
+    ∷ right 4 after.durability ∷ right 5 after.cp ∷ [])
 
 -- the last column, where a limit is shown
 abbrev pub limit_column : Option ℕ → List ℕ

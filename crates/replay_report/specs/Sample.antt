@@ -11,17 +11,19 @@ use Rattle.replay_report.specs.Report.{text_after}
 -- the first line: the sample's number and its settings
 abbrev pub sample_line : ℕ → SettingsFields → List ℕ
 sample_line number g =
-    concat (codes "sample " ∷ decimal number ∷ codes " level " ∷ decimal g.level ∷ codes " cp " ∷ decimal g.cp ∷ codes " durability " ∷ decimal g.durability
-    ∷ codes " progress " ∷ decimal g.progress ∷ codes " quality " ∷ decimal g.quality ∷ codes " base " ∷ decimal g.base_progress ∷ codes " " ∷ decimal g.base_quality ∷ codes "\n" ∷ [])
+    concat (codes "sample " ∷ decimal number ∷ codes " level " ∷ decimal g.level ∷ codes " cp " ∷ decimal g.cp ∷ codes " durability "
+    ∷ decimal g.durability ∷ codes " progress " ∷ decimal g.progress ∷ codes " quality " ∷ decimal g.quality ∷ codes " base "
+    ∷ decimal g.base_progress ∷ codes " " ∷ decimal g.base_quality ∷ codes "\n" ∷ [])
 
 -- a line of what a macro comes to, by its numbers
 abbrev pub sums_line : (steps seconds quality most kept : ℕ) → List ℕ
 sums_line steps seconds quality most kept =
-    concat (codes "steps " ∷ decimal steps ∷ codes " seconds " ∷ decimal seconds ∷ codes " quality " ∷ decimal quality ∷ codes "/" ∷ decimal most ∷ codes " kept " ∷ decimal kept ∷ codes "\n" ∷ [])
+    concat (codes "steps " ∷ decimal steps ∷ codes " seconds " ∷ decimal seconds ∷ codes " quality " ∷ decimal quality ∷ codes "/"
+    ∷ decimal most ∷ codes " kept " ∷ decimal kept ∷ codes "\n" ∷ [])
 
 -- the second line, for actions that end in a state
 abbrev pub result_line : SettingsFields → (counts : List ℕ) → List Action → StateFields → List ℕ
-result_line g counts m last = sums_line (length m) (seconds_of g m) last.quality g.quality (sum counts)
+result_line g counts m last = sums_line (length m) (seconds_of m) last.quality g.quality (sum counts)
 
 -- the second line where no legal macro completes
 abbrev pub none_line : List ℕ

@@ -1,4 +1,4 @@
-// The text that is written for a macro.
+//! The text that is written for a macro.
 #![tactic(auto)]
 
 ghost use Rattle.std.specs.Prelude.{◌≡◌, length, IfOk};
@@ -21,7 +21,6 @@ use macro_text::blocks;
 pub use prefixes::limits;
 pub use sample::{sample_none, sample_report};
 use std::alloc::Global;
-use step_rules::{replay, start};
 pub use style::Report;
 use table::table_text;
 
@@ -41,14 +40,13 @@ pub fn report(
     requires limits { style.now ≡ Report.Limits → length limits.now ≡ length actions.now }
     ensures { IfOk result (λ text. text.items ≡ report_of g.now style.now counts.now limits.now actions.now) }
 {
-    let Ok(last) = replay(g, &start(g), actions) else {
-        unreachable!()
-    };
+    let _level = g.level;
+    let (table, last) = table_text(alloc, g, actions, limits, style)?;
     let mut text = head(alloc, g, actions, &last)?;
     text.extend_from_slice(kept_text(alloc, counts)?.as_bytes())?;
     text.extend_from_slice(&blocks(alloc, actions)?)?;
     text.extend_from_slice(b"replay\n")?;
-    text.extend_from_slice(table_text(alloc, g, actions, limits, style)?.as_bytes())?;
+    text.extend_from_slice(table.as_bytes())?;
     text.extend_from_slice(levels_shown(alloc, counts, style)?.as_bytes())?;
     Ok(text)
 }

@@ -1,5 +1,5 @@
 ghost use Rattle.std.specs.Prelude.{◌≡◌, ◌≤◌, ◌++◌, None, codes, length, string_bytes, IfOk, OnOk};
-ghost use Rattle.step_rules.specs.Measure.{most_steps};
+ghost use Rattle.step_rules.specs.declared.legality.TheConstants.{MOST_STEPS};
 ghost use Rattle.replay_report.specs.Holes.{column_holes};
 ghost use Rattle.replay_report.specs.Lines.{columns_of, head_of, limit_column, numbers_line, table_row};
 
@@ -10,7 +10,7 @@ use macro_order::seconds;
 use std::alloc::{AllocError, Global};
 use std::fmt::Write;
 
-/// The first line for at most 272 actions that end in the state `last`: how many steps and seconds
+/// The first line for at most `MOST_STEPS` actions that end in the state `last`: how many steps and seconds
 /// they take, the recipe's progress twice, the quality of `last` and the recipe's quality.
 pub fn head(
     alloc: Global,
@@ -18,13 +18,13 @@ pub fn head(
     actions: &[Action],
     last: &State,
 ) -> Result<Vec<u8>, WantMemory>
-    requires { length actions.now ≤ most_steps }
+    requires { length actions.now ≤ MOST_STEPS }
     ensures { IfOk result (λ text. text.items ≡ head_of g.now actions.now last.now) }
 {
     let line = numbers(
         alloc,
         actions.len(),
-        seconds(g, actions),
+        seconds(actions),
         g.progress,
         last.quality,
         g.quality,
@@ -47,7 +47,7 @@ fn numbers(
     )
 }
 
-/// One line of the table in the plain style: the number of a step, from 1 to 272, its action, and the progress,
+/// One line of the table in the plain style: the number of a step, from 1 to `MOST_STEPS`, its action, and the progress,
 /// the quality, the durability and the CP after it.
 pub fn table_line(
     alloc: Global,
@@ -56,7 +56,7 @@ pub fn table_line(
     after: &State,
 ) -> Result<Vec<u8>, WantMemory>
     requires low { 1 ≤ number }
-    requires high { number ≤ most_steps }
+    requires high { number ≤ MOST_STEPS }
     ensures { IfOk result (λ text. text.items ≡ table_row number action after.now None) }
 {
     let mut line = String::new(alloc);

@@ -4,7 +4,7 @@ ghost use Rattle.seat_tables.specs.Seats.{IsOf, StillSees};
 ghost use Rattle.step_rules.specs.Legality.{IsWithin, is_complete, is_over, start_of};
 ghost use Rattle.step_rules.specs.Macro.{Completes, counted};
 ghost use Rattle.relaxed_moves.specs.Optimum.{limit_of};
-ghost use Rattle.replay_report.specs.Limits.{AreLimited, AreLimits, IsLimited};
+ghost use Rattle.replay_report.specs.Limits.{AreLimited, AreLimitsAlong, IsLimited};
 
 use action_table::{Action, WantMemory};
 use craft_settings::Settings;
@@ -12,7 +12,7 @@ use craft_state::State;
 use quality_bound::{QualityTruth, limit};
 use seat_tables::{Seat, Shared};
 use std::alloc::Global;
-use step_rules::{start, step};
+use step_rules::{counted, is_complete, start, step};
 
 /// The limits along a macro that completes the craft: after each action the most quality that a macro can still
 /// reach, at the table's grain, and after the last the quality that counts.
@@ -32,7 +32,7 @@ pub fn limits(
     requires complete { Completes g.now (start_of g.now) actions.now }
     requires limited { AreLimited g.now shared.now.truth.grain actions.now }
     ensures refused { OnErr result (seat.new ≡ seat.old) }
-    ensures limits { IfOk result (λ limits. AreLimits g.now shared.now.truth.grain actions.now limits.items) }
+    ensures limits { IfOk result (λ limits. AreLimitsAlong g.now shared.now.truth.grain actions.now limits.items) }
     ensures of { IsOf shared.now seat.new }
     ensures still { StillSees seat.old.view seat.new.view }
 {
@@ -61,8 +61,8 @@ fn limit_after(
     ensures of { IsOf shared.now seat.new }
     ensures still { StillSees seat.old.view seat.new.view }
 {
-    if s.progress == g.progress {
-        return s.quality.min(g.cap());
+    if is_complete(g, s) {
+        return counted(g, s);
     }
     let Some(most) = limit(shared, seat, s) else {
         unreachable!()

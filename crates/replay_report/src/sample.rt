@@ -30,7 +30,7 @@ pub fn sample_report(
     let sums = sums_text(
         alloc,
         actions.len(),
-        seconds(g, actions),
+        seconds(actions),
         last.quality,
         g.quality,
         total(counts),

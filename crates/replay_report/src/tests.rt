@@ -5,6 +5,7 @@ ghost use Rattle.step_rules.specs.Macro.{Completes};
 use super::*;
 use craft_state::State;
 use std::test::Fail;
+use step_rules::{replay, start};
 
 const EASY: Settings = Settings {
     level: 1,
@@ -130,7 +131,7 @@ replay
 ",
 };
 
-const CASES: [Case; 14] = [
+const CASES: [Case; 7] = [
     SYNTHESIS,
     Case {
         g: ONE_TOUCH,
@@ -241,6 +242,9 @@ replay
   4 Basic Synthesis         150    150   0    0    150
 ",
     },
+];
+
+const MORE_CASES: [Case; 7] = [
     Case {
         g: INNOVATION,
         actions: &INNOVATING,
@@ -408,6 +412,14 @@ fn is_reported(alloc: Global, case: &Case) -> Result<bool, Fail> {
 #[test]
 fn reports(rt: HostRuntime) -> Result<(), Fail> {
     for case in &CASES {
+        assert!(rt; is_reported(rt.alloc(), case)?, "{}", case.text);
+    }
+    Ok(())
+}
+
+#[test]
+fn reports_more(rt: HostRuntime) -> Result<(), Fail> {
+    for case in &MORE_CASES {
         assert!(rt; is_reported(rt.alloc(), case)?, "{}", case.text);
     }
     Ok(())

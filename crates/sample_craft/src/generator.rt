@@ -9,14 +9,14 @@ const ADDEND: u64 = 12345;
 const MODULUS: u64 = 2147483648;
 
 #[derive(Drop)]
-pub struct Generator {
-    pub state: u32,
+pub(crate) struct Generator {
+    pub(crate) state: u32,
 }
 
 impl Generator {
     // Turns once, and gives the state without its lower 16 bits.
     #[tactic(auto, unfolding(crate::specs::Sample::turned))]
-    pub fn draw(&mut self) -> u32
+    pub(crate) fn draw(&mut self) -> u32
         ensures turn { self.new.state ≡ turned self.old.state }
         ensures value { result ≡ self.new.state / 65536 }
         ensures range { result ≤ 32767 }

@@ -1,4 +1,4 @@
-// Sample crafts, each made from a number.
+//! Sample crafts, each made from a number.
 #![tactic(auto)]
 
 ghost use Rattle.std.specs.Prelude.{◌≡◌, ◌≤◌};

@@ -94,10 +94,6 @@ raised-above reached mark n None le h = tt
 raised-above reached mark zero (Some p) le h = absurd (omega arith)
 raised-above reached mark (suc q) (Some p) le h = omega arith
 
-pub mark-fits : (reached : ℕ → Type 0) (mark : ℕ) → ((q : ℕ) → reached q → q < 2 ^ 32) → IsMark reached mark → mark < 4294967297
-mark-fits reached zero fits m = omega arith
-mark-fits reached (suc q) fits m = omega (arith, fits q m)
-
 -- the quality of a mark is reached
 quality-reached : (reached : ℕ → Type 0) (mark : ℕ) → IsMark reached mark → IfSome (quality mark) reached
 quality-reached reached zero m = tt

@@ -14,7 +14,8 @@ floor_max (Some p) (Some q) = Some (max p q)
 
 module _ {T : Type 0} where
   -- a step tells of the view before it, the number found, and the view after it; the seat holds no slot
-  abbrev pub Told : (Step (Unit {0}) → View T → ℕ → View T → Type 0) → Step (Unit {0}) → Me (Unit {0}) (View T) → ℕ → Me (Unit {0}) (View T) → Type 0
+  abbrev pub Told : (Step (Unit {0}) → View T → ℕ → View T → Type 0) → Step (Unit {0}) → Me (Unit {0}) (View T) → ℕ →
+      Me (Unit {0}) (View T) → Type 0
   Told tells st m n m' = (m'.1 ≡ m.1) × tells st m.0 n m'.0
 
   -- the word is empty or says the truth's entry, and it is not empty where the index was seen
@@ -30,7 +31,8 @@ module _ {T : Type 0} where
   looks reached = Told (λ st v n w. (w ≡ looked n v) × ((t : T) → v.truth ≡ Some t → IsMark (reached t) n × IsFloor (reached t) n v.floor))
 
   abbrev pub offers : (T → ℕ → Type 0) → Step (Unit {0}) → Me (Unit {0}) (View T) → ℕ → Me (Unit {0}) (View T) → Type 0
-  offers reached = Told (λ st v n w. (w ≡ offered st.first n v) × ((t : T) → v.truth ≡ Some t → IsMark (reached t) (max n st.first) × IsFloor (reached t) n v.floor))
+  offers reached = Told (λ st v n w. (w ≡ offered st.first n v) ×
+      ((t : T) → v.truth ≡ Some t → IsMark (reached t) (max n st.first) × IsFloor (reached t) n v.floor))
 
   -- a look at the mark as a seat is split or takes another in
   abbrev pub parts : (T → ℕ → Type 0) → Step (Unit {0}) → Me (Unit {0}) (View T) → ℕ → Me (Unit {0}) (View T) → Type 0

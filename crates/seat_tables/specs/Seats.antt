@@ -19,7 +19,8 @@ pub record SeatFields (T : Type 0) : Type 0 where
 abbrev pub IsOf : {T : Type 0} → SharedFields T → SeatFields T → Type 0
 IsOf table seat = (seat.id ≡ table.id) × (seat.view.truth ≡ Some table.truth) × (seat.view.joined ≡ false)
 
--- one step at a place: with the word found there the event happens to the view, one more step is counted, and the place and the word are noted
+-- one step at a place: with the word found there the event happens to the view, one more step is counted, and the
+-- place and the word are noted
 pub record OneStep {T : Type 0} (place : ℕ) (event : ℕ → View T → View T) (before after : View T) : Type 0 where
   pub found : ℕ
   pub happened : after ≡ event found before
@@ -39,4 +40,5 @@ pub record StillSees {T : Type 0} (before after : View T) : Type 0 where
 -- what holds of all words that are sound with this view, whatever the other views are
 abbrev pub WithAllSound : {T : Type 0} → (T → ℕ) → (T → ℕ → Entry) → (T → ℕ → Type 0) → T → View T → (List ℕ → Type 0) → Type 0
 WithAllSound {T} size entry reached truth v holds =
-    (words : List ℕ) (views : List (View T)) (place : ℕ) → get_elem? views place ≡ some v → Sound size entry reached truth words views → holds words
+    (words : List ℕ) (views : List (View T)) (place : ℕ) → get_elem? views place ≡ some v → Sound size entry reached truth words views →
+    holds words

@@ -30,7 +30,8 @@ impl<T: Truth> Shared<T> {
         self.truth
     }
 
-    /// Reads the word of an index, which is below the truth's size: the truth's entry, or None exactly where the word is still empty. Never None where the seat has seen the index.
+    /// Reads the word of an index, which is below the truth's size: the truth's entry, or None exactly where the word
+    /// is still empty. Never None where the seat has seen the index.
     pub fn load(&self, seat: &mut Seat<T>, index: usize) -> Option<Entry>
         requires of { IsOf self.now seat.old }
         requires inside { index < T.size self.now.truth }
@@ -48,14 +49,16 @@ impl<T: Truth> Shared<T> {
         Entry::from_word(word)
     }
 
-    /// Fills the word of an index, which is below the truth's size, with the truth's entry, where it is still empty. The seat has then seen the index: as long as the words are sound, its word says the entry.
+    /// Fills the word of an index, which is below the truth's size, with the truth's entry, where it is still empty.
+    /// The seat has then seen the index: as long as the words are sound, its word says the entry.
     pub fn put(&self, seat: &mut Seat<T>, index: usize, entry: Entry)
         requires of { IsOf self.now seat.old }
         requires inside { index < T.size self.now.truth }
         requires entry { entry ≡ T.entry self.now.truth index }
         ensures of { IsOf self.now seat.new }
         ensures step { OneStep (index + 1) (filled index) seat.old.view seat.new.view }
-        ensures word { WithAllSound T.size T.entry T.reached self.now.truth seat.new.view (λ words. slice_index words (index + 1) ≡ code entry) }
+        ensures word { WithAllSound T.size T.entry T.reached self.now.truth seat.new.view (λ words.
+            slice_index words (index + 1) ≡ code entry) }
         ensures seen { Contains seat.new.view.seen index }
         ensures still { StillSees seat.old.view seat.new.view }
         ensures floor { seat.new.view.floor ≡ seat.old.view.floor }
@@ -65,7 +68,8 @@ impl<T: Truth> Shared<T> {
         steps.compare_exchange::<Puts<T>>(&mut seat.token, index + 1, 0, new);
     }
 
-    /// Reads the mark: the greatest quality offered so far, which becomes the seat's floor, or None exactly where nothing was offered. Never below the seat's old floor.
+    /// Reads the mark: the greatest quality offered so far, which becomes the seat's floor, or None exactly where
+    /// nothing was offered. Never below the seat's old floor.
     pub fn see(&self, seat: &mut Seat<T>) -> Option<u32>
         requires { IsOf self.now seat.old }
         ensures of { IsOf self.now seat.new }
@@ -82,13 +86,15 @@ impl<T: Truth> Shared<T> {
         quality_of_mark(mark)
     }
 
-    /// Raises the mark to a reached quality, where it is lower. The seat's floor is then the mark's quality: as long as the words are sound, the mark is at least the greater of the two.
+    /// Raises the mark to a reached quality, where it is lower. The seat's floor is then the mark's quality: as long
+    /// as the words are sound, the mark is at least the greater of the two.
     pub fn offer(&self, seat: &mut Seat<T>, quality: u32)
         requires of { IsOf self.now seat.old }
         requires reached { T.reached self.now.truth quality }
         ensures of { IsOf self.now seat.new }
         ensures step { OneStep 0 (offered (1 + quality)) seat.old.view seat.new.view }
-        ensures mark { (found : ℕ) → seat.new.view.last ≡ Some (0, found) → WithAllSound T.size T.entry T.reached self.now.truth seat.new.view (λ words. max found (1 + quality) ≤ slice_index words 0) }
+        ensures mark { (found : ℕ) → seat.new.view.last ≡ Some (0, found) →
+            WithAllSound T.size T.entry T.reached self.now.truth seat.new.view (λ words. max found (1 + quality) ≤ slice_index words 0) }
         ensures floor { (q : ℕ) × (seat.new.view.floor ≡ Some q) × T.reached self.now.truth q × (quality ≤ q) }
         ensures kept { AtLeast seat.new.view.floor seat.old.view.floor }
         ensures still { StillSees seat.old.view seat.new.view }

@@ -20,7 +20,8 @@ impl<T: Truth> Model for Shared<T> {
 
     ghost view = { λ s. record { truth = s.truth; id = s.table.shared.table_id } };
 
-    ghost invariant = { λ s. (s.table.shared.key ≡ s.truth) × (s.table.shared.table_id.words ≡ T.size s.truth + 1) × (s.table.shared.table_id.slots ≡ 0) };
+    ghost invariant = { λ s. (s.table.shared.key ≡ s.truth) × (s.table.shared.table_id.words ≡ T.size s.truth + 1) ×
+        (s.table.shared.table_id.slots ≡ 0) };
 }
 
 /// A token for the steps of one thread. Contracts see it as its view: what its thread knows of the table.

@@ -1,127 +1,147 @@
--- What a run has done where it comes to the output.
-use Rattle.std.proofs.Common.{◌≡◌, ◌<◌, ℕ, List, String, Some, map, string_bytes, take, length, Option, Bool, true, false, inl, inr, subst, sym, ap, ◌∙◌, IfSome}
-use Rattle.std.specs.Io.KnownBytes.{Appends}
-use Rattle.std.proofs.KnownBytes.{Consumes-whole}
+-- The clauses of a run follow from what its words come to.
+use Rattle.std.proofs.Common.{◌≡◌, ◌≢◌, ◌<◌, ◌≤◌, ◌↔◌, ◌⊎◌, inl, inr, ℕ, List, [], Result, String, Option, Some, None, IfSome, map, string_bytes, length, refl, subst, sym, ap, arith, ◌∙◌, Ok, Err}
 use Rattle.std.specs.declared.alloc.Global.{Global}
-use Rattle.action_table.specs.declared.action.Action.{Action}
-use Rattle.craft_settings.specs.Ranges.{SettingsFields}
-use Rattle.craft_settings.specs.Accepts.{Accepts}
-use Rattle.macro_order.specs.Order.{IsBest, NothingCompletes}
-use Rattle.sample_craft.specs.Sample.{sample_of}
+use Rattle.craft_io.specs.Causes.{Rose, next_count}
+use Rattle.craft_io.specs.Views.{Gains, GainsPart, GivesAtMost, GivesFewer, ReadsAtMostTimes, SinkView, SourceView}
+use Rattle.craft_settings.specs.Reading.{max_length}
+use Rattle.run_io.specs.Answering.{CountsReadFault, CountsWriteFault, GivesTold, HasRow, Refuses, Tells, Writes, WritesPart}
+use Rattle.run_io.specs.FaultLine.{write_line}
+use Rattle.run_io.specs.Halts.{IsOutcome, RunsTo, line_of, status_of}
+use Rattle.run_io.specs.Reading.{Reads, ReadsAll}
+use Rattle.run_io.specs.Statuses.{IsBeforeWriting, IsRefusal, IsResult, fault_line}
+use Rattle.run_io.specs.declared.answer.Answer.{Answer}
+use Rattle.run_io.specs.declared.halt.Halt.{Halt}
+use Rattle.run_io.specs.declared.halt.Halt.TheVariants.{Refused, BadWords as BadWordsHalt, ReadFault as ReadFaultHalt, WantMemory as WantMemoryHalt}
+use Rattle.run_io.specs.declared.status.Status.{Status}
+use Rattle.run_io.specs.declared.status.Status.TheVariants.{BadSettings, WriteFault, WantMemory}
+use Rattle.run_io.proofs.Endings.{no_write_fault, short_row}
 use Rattle.solve_words.specs.Words.{words_of}
 use Rattle.solve_words.specs.declared.words.Command.{Command}
 use Rattle.solve_words.specs.declared.words.Command.TheVariants.{Solve, Sample}
 use Rattle.solve_words.specs.declared.words.Words.{Words}
-use Rattle.solve_engine.specs.declared.status.Status.TheVariants.{Solved, NoMacro}
-use Rattle.solve_engine.specs.Words.{Ask, AskToSolve, AskToSample}
-use Rattle.solve_engine.specs.Text.{IsText, IsTextFor, IsMacroText, IsSampleText, none_text}
-use Rattle.solve_engine.specs.Told.{AnswersFor, AnswersSample}
-use Rattle.solve_engine.specs.Outcome.{Answers, IsAbout, IsAnswerText, Reads, WritesBest, WritesNone, WritesPart}
-
-pub wrote_best : (given : Words) (text sent : List ℕ) (solved : Bool) (left left' taken taken' : Option (List ℕ)) → Answers given left left' text solved
-    → solved ≡ true → sent ≡ text → Appends taken taken' sent → WritesBest given left left' taken taken'
-wrote_best given text sent true left left' taken taken' answer is same writes = record {
-  settings = answer.settings;
-  about = answer.about;
-  text = text;
-  best = answer.is;
-  writes = subst (Appends taken taken') same writes;
-}
-wrote_best given text sent false left left' taken taken' answer is same writes = absurd (cc)
-
-pub wrote_none : (given : Words) (text sent : List ℕ) (solved : Bool) (left left' taken taken' : Option (List ℕ)) → Answers given left left' text solved
-    → solved ≡ false → sent ≡ text → Appends taken taken' sent → WritesNone given left left' taken taken'
-wrote_none given text sent true left left' taken taken' answer is same writes = absurd (cc)
-wrote_none given text sent false left left' taken taken' answer is same writes = record {
-  settings = answer.settings;
-  about = answer.about;
-  nothing = answer.is.0;
-  writes = subst (Appends taken taken') (same ∙ answer.is.1) writes;
-}
-
-text_is : (given : Words) (g : SettingsFields) (text : List ℕ) (solved : Bool) → IsAnswerText given g text solved → IsText given g text
-text_is given g text true answer = inl answer
-text_is given g text false answer = inr answer
-
-pub wrote_part : (given : Words) (text sent : List ℕ) (solved : Bool) (left left' taken taken' : Option (List ℕ)) → Answers given left left' text solved
-    → sent ≡ text → (n : ℕ) × (n < length sent) × Appends taken taken' (take n sent) → WritesPart given left left' taken taken'
-wrote_part given text sent solved left left' taken taken' answer same part = record {
-  settings = answer.settings;
-  about = answer.about;
-  text = sent;
-  is = subst (IsText given answer.settings) (sym same) (text_is given answer.settings text solved answer.is);
-  count = part.0;
-  short = part.1;
-  writes = part.2;
-}
-
--- what `solve` is about was read
-pub was_read : (command : Command) (g : SettingsFields) (left left' : Option (List ℕ)) → IsAbout command g left left' → command ≡ Solve → Reads g left left'
-was_read command g left left' about is = subst (λ (c : Command). IsAbout c g left left') is about
-
--- what `sample` is about are the settings of its number
-was_sampled : (command : Command) (n : ℕ) (g : SettingsFields) (left left' : Option (List ℕ)) → IsAbout command g left left' → command ≡ Sample n → g ≡ sample_of n
-was_sampled command n g left left' about is = subst (λ (c : Command). IsAbout c g left left') is about
-
--- where the source tells its bytes, all settings that they are accepted as have the answer
-pub answered_best : (given : Words) (left left' taken taken' : Option (List ℕ)) → given.command ≡ Solve → WritesBest given left left' taken taken'
-    → IfSome left (λ bytes. (g : SettingsFields) → Accepts bytes g → (m : List Action) × IsBest g m)
-answered_best given left left' taken taken' solve w =
-    let reads = was_read given.command w.settings left left' w.about solve in
-    Consumes-whole left left' reads.bytes (λ bytes. (g : SettingsFields) → Accepts bytes g → (m : List Action) × IsBest g m)
-    reads.read reads.end (λ g is. subst (λ (g : SettingsFields). (m : List Action) × IsBest g m) (sym (reads.only g is)) (w.best.0, w.best.1))
-
-pub answered_none : (given : Words) (left left' taken taken' : Option (List ℕ)) → given.command ≡ Solve → WritesNone given left left' taken taken'
-    → IfSome left (λ bytes. (g : SettingsFields) → Accepts bytes g → NothingCompletes g)
-answered_none given left left' taken taken' solve w =
-    let reads = was_read given.command w.settings left left' w.about solve in
-    Consumes-whole left left' reads.bytes (λ bytes. (g : SettingsFields) → Accepts bytes g → NothingCompletes g)
-    reads.read reads.end (λ g is. subst NothingCompletes (sym (reads.only g is)) w.nothing)
-
--- and the text that was written is that of all its bytes
-pub headline_best : (given : Words) (left left' taken taken' : Option (List ℕ)) → given.command ≡ Solve → WritesBest given left left' taken taken'
-    → IfSome left (λ bytes. AnswersFor given bytes Solved taken taken')
-headline_best given left left' taken taken' solve w =
-    let reads = was_read given.command w.settings left left' w.about solve in
-    let is : IsMacroText w.settings given.grain given.report w.best.0 w.text = subst (λ (c : Command). IsTextFor given c w.settings w.best.0 w.text) solve w.best.2 in
-    Consumes-whole left left' reads.bytes (λ bytes. AnswersFor given bytes Solved taken taken')
-    reads.read reads.end (w.settings, w.best.0, w.text, reads.accepted, w.best.1, is, w.writes)
-
-pub headline_none : (given : Words) (left left' taken taken' : Option (List ℕ)) → given.command ≡ Solve → WritesNone given left left' taken taken'
-    → IfSome left (λ bytes. AnswersFor given bytes NoMacro taken taken')
-headline_none given left left' taken taken' solve w =
-    let reads = was_read given.command w.settings left left' w.about solve in
-    Consumes-whole left left' reads.bytes (λ bytes. AnswersFor given bytes NoMacro taken taken')
-    reads.read reads.end (w.settings, reads.accepted, w.nothing, subst (λ (c : Command). Appends taken taken' (none_text c w.settings)) solve w.writes)
-
--- the lines of a sample were written
-pub sample_best : (given : Words) (n : ℕ) (left left' taken taken' : Option (List ℕ)) → given.command ≡ Sample n → WritesBest given left left' taken taken'
-    → AnswersSample n given.grain Solved taken taken'
-sample_best given n left left' taken taken' sample w =
-    let same = was_sampled given.command n w.settings left left' w.about sample in
-    let is : IsSampleText n w.settings given.grain w.best.0 w.text = subst (λ (c : Command). IsTextFor given c w.settings w.best.0 w.text) sample w.best.2 in
-    (w.best.0, w.text, subst (λ (g : SettingsFields). IsBest g w.best.0) same w.best.1, subst (λ (g : SettingsFields). IsSampleText n g given.grain w.best.0 w.text) same is, w.writes)
-
-pub sample_none : (given : Words) (n : ℕ) (left left' taken taken' : Option (List ℕ)) → given.command ≡ Sample n → WritesNone given left left' taken taken'
-    → AnswersSample n given.grain NoMacro taken taken'
-sample_none given n left left' taken taken' sample w =
-    let same = was_sampled given.command n w.settings left left' w.about sample in
-    let writes : Appends taken taken' (none_text (Sample n) w.settings) = subst (λ (c : Command). Appends taken taken' (none_text c w.settings)) sample w.writes in
-    (subst NothingCompletes same w.nothing, subst (λ (g : SettingsFields). Appends taken taken' (none_text (Sample n) g)) same writes)
+use Rattle.solve_engine.specs.Commands.{Answers, AnswersOf, Task, most_asked, most_for, most_of}
+use Rattle.solve_engine.specs.Outcome.{ComesTo, IsDone}
+use Rattle.solve_engine.specs.Sample.{SampleAnswers}
+use Rattle.solve_engine.specs.Solve.{SolveAnswers, SolvesTo}
+use Rattle.solve_engine.specs.Words.{AreBad, Ask, AskToSample, AskToSolve}
 
 -- words ask for one thing alone
 one_word : (o : Option Words) (a b : Words) → o ≡ Some a → o ≡ Some b → a ≡ b
 one_word o a b is also = cc
 
-pub same_words : (words : List (String Global)) (a b : Words) → Ask words a → Ask words b → a ≡ b
+same_words : (words : List (String Global)) (a b : Words) → Ask words a → Ask words b → a ≡ b
 same_words words a b is also = one_word (words_of (map string_bytes words)) a b is also
 
-pub is_solve : (words : List (String Global)) (given : Words) (asked : AskToSolve words) → Ask words given → given.command ≡ Solve
-is_solve words given asked form = ap (λ (w : Words). w.command) (same_words words given asked.given form asked.form) ∙ asked.command
+no_words : (o : Option Words) (a : Words) → o ≡ None → o ≡ Some a → ⊥
+no_words o a none is = cc
 
-pub is_sample : (words : List (String Global)) (given : Words) (asked : AskToSample words) → Ask words given → given.command ≡ Sample asked.number
-is_sample words given asked form = ap (λ (w : Words). w.command) (same_words words given asked.given form asked.form) ∙ asked.command
+pub most_is : (words : List (String Global)) (given : Words) → Ask words given → most_for words ≡ most_of given.command
+most_is words given form = ap most_asked form
 
--- `solve` isn't `sample`
-pub not_both : (command : Command) (n : ℕ) → command ≡ Solve → command ≡ Sample n → ⊥
-not_both command n is also = cc
+solve_row : (given : Words) (input : List ℕ) (s : Status) (text : List ℕ) → given.command ≡ Solve → Answers given input s text → SolveAnswers given input s text
+solve_row given input s text is row = subst (λ (c : Command). AnswersOf c given input s text) is row
+
+-- a result comes only where less was read than is read at most
+short : (c : Command) (given : Words) (input : List ℕ) (s : Status) (text : List ℕ) → IsResult s → 1 ≤ most_of c → AnswersOf c given input s text → length input < most_of c
+short Solve given input s text result some row = let within = short_row (SolvesTo given) input s text result row in omega arith
+short (Sample n) given input s text result some row = absurd (omega (arith, some))
+
+-- the status of a text that was written whole
+same_status : (r s : Status) → IsResult r → (r ≡ s) ⊎ (r ≡ WriteFault) → s ≡ r
+same_status r s result (inl same) = sym same
+same_status r s result (inr fault) = absurd (no_write_fault r result fault)
+
+module _ (words : List (String Global)) (a : Answer) (r : Status) (before after : SourceView) (done : IsDone words (Ok a) before after) (ends : (r ≡ a.status) ⊎ (r ≡ WriteFault)) where
+  pub answer_solve : (asked : AskToSolve words) → (out out' : SinkView) → IsResult r → Gains a.text.items out out'
+      → (input : List ℕ) × ReadsAll input before after × Writes (SolveAnswers asked.given input) r out out'
+  answer_solve asked out out' result gains =
+      let task = done.comes.0 in
+      let same = same_words words task.given asked.given task.form asked.form in
+      let solve : task.given.command ≡ Solve = ap (λ (w : Words). w.command) same ∙ asked.command in
+      let status = same_status r a.status result ends in
+      let most : most_of task.given.command ≡ most_of Solve = ap most_of solve in
+      let less = short task.given.command task.given task.input a.status a.text.items done.comes.1.0 (omega (arith, most)) done.comes.1.1 in
+      let row = solve_row task.given task.input a.status a.text.items solve done.comes.1.1 in
+      let moved : SolveAnswers asked.given task.input a.status a.text.items = subst (λ (w : Words). SolveAnswers w task.input a.status a.text.items) same row in (
+        task.input,
+        (task.reads.gives, task.reads.end less),
+        record {
+          text = a.text.items;
+          is = subst (λ (s : Status). SolveAnswers asked.given task.input s a.text.items) status moved;
+          gains = gains;
+        },
+      )
+
+  pub answer_complete : (out out' : SinkView) → CountsWriteFault r out.faults out'.faults → (Rose out.faults out'.faults → ⊥)
+      → (r ≡ WantMemory) ⊎ ((task : Task words before after) × HasRow (Answers task.given task.input) r)
+  answer_complete out out' counts quiet = go ends
+    where
+      go : (r ≡ a.status) ⊎ (r ≡ WriteFault) → (r ≡ WantMemory) ⊎ ((task : Task words before after) × HasRow (Answers task.given task.input) r)
+      go (inl same) =
+          let task = done.comes.0 in
+          inr (task, (a.text.items, subst (λ (s : Status). Answers task.given task.input s a.text.items) (sym same) done.comes.1.1))
+      go (inr fault) =
+          let risen : out'.faults ≡ next_count out.faults = subst (λ (s : Status). CountsWriteFault s out.faults out'.faults) fault counts in
+          absurd (quiet (omega (arith, risen)))
+
+  pub answer_part : (out out' : SinkView) → GainsPart a.text.items out out' → (task : Task words before after) × WritesPart (Answers task.given task.input) out out'
+  answer_part out out' gains = (done.comes.0, record { status = a.status; result = done.comes.1.0; text = a.text.items; is = done.comes.1.1; gains = gains })
+
+-- where there is no text, the halt says why
+module _ (words : List (String Global)) (h : Halt) (r : Status) (before after : SourceView) (done : IsDone words (Err h) before after) (status : r ≡ status_of h) where
+  pub halt_complete : (given : Words) → Ask words given → (1 ≤ most_of given.command → Rose before.faults after.faults → ⊥)
+      → (r ≡ WantMemory) ⊎ ((task : Task words before after) × HasRow (Answers task.given task.input) r)
+  halt_complete given form quiet =
+      subst (λ (s : Status). (s ≡ WantMemory) ⊎ ((task : Task words before after) × HasRow (Answers task.given task.input) s)) (sym status) (go h done)
+    where
+      go : (h : Halt) → IsDone words (Err h) before after → (status_of h ≡ WantMemory) ⊎ ((task : Task words before after) × HasRow (Answers task.given task.input) (status_of h))
+      go BadWordsHalt done = absurd (no_words (words_of (map string_bytes words)) given done.comes form)
+      go ReadFaultHalt done =
+          let same : most_of done.comes.0.command ≡ most_of given.command = ap (λ (w : Words). most_of w.command) (same_words words done.comes.0 given done.comes.1 form) in
+          let fewer = done.comes.2 in
+          absurd (quiet (omega (arith, same, fewer.1)) (omega (arith, done.faults)))
+      go WantMemoryHalt done = inl refl
+      go (Refused refusal) done = inr (done.comes.0, (refusal.line.items, done.comes.1.1))
+
+  pub halt_refused : (err err' : SinkView) → Tells (line_of h) err err' → IsRefusal r → (task : Task words before after) × Refuses (Answers task.given task.input) r err err'
+  halt_refused err err' tells refusal =
+      subst (λ (s : Status). (task : Task words before after) × Refuses (Answers task.given task.input) s err err') (sym status) (go h done tells (subst IsRefusal status refusal))
+    where
+      go : (h : Halt) → IsDone words (Err h) before after → Tells (line_of h) err err' → IsRefusal (status_of h)
+          → (task : Task words before after) × Refuses (Answers task.given task.input) (status_of h) err err'
+      go BadWordsHalt done tells refusal = absurd refusal
+      go ReadFaultHalt done tells refusal = absurd refusal
+      go WantMemoryHalt done tells refusal = absurd refusal
+      go (Refused r) done tells refusal = (done.comes.0, record { line = r.line.items; is = done.comes.1.1; tells = tells })
+
+comes_by : (words : List (String Global)) (given : Words) (result : Result Answer Halt) (before after : SourceView) → Ask words given
+    → IsOutcome (Answers given) (most_of given.command) result before after → ComesTo words result before after
+comes_by words given (Ok answer) before after form outcome = (record { given = given; form = form; input = outcome.0; reads = outcome.1 }, outcome.2)
+comes_by words given (Err (Refused refusal)) before after form outcome = (record { given = given; form = form; input = outcome.0; reads = outcome.1 }, outcome.2)
+comes_by words given (Err WantMemoryHalt) before after form outcome = tt
+comes_by words given (Err BadWordsHalt) before after form outcome = absurd outcome.2
+comes_by words given (Err ReadFaultHalt) before after form outcome = (given, form, outcome)
+
+-- words of the form come to what their command does
+pub done_by : (words : List (String Global)) (given : Words) (result : Result Answer Halt) (before after : SourceView) → Ask words given
+    → RunsTo (Answers given) (most_of given.command) result before after → IsDone words result before after
+done_by words given result before after form runs =
+    let most = sym (most_is words given form) in
+    record {
+      comes = comes_by words given result before after form runs.outcome;
+      bad = λ bad. absurd (no_words (words_of (map string_bytes words)) given bad form);
+      faults = runs.faults;
+      at_most = subst (λ (n : ℕ). GivesAtMost n before after) most runs.at_most;
+      times = subst (λ (n : ℕ). ReadsAtMostTimes n before after) most runs.times;
+    }
+
+solve_refuses : (c : Command) (given : Words) (input line : List ℕ) → AnswersOf c given input BadSettings line → c ≡ Solve
+solve_refuses Solve given input line row = refl
+solve_refuses (Sample n) given input line row = absurd row
+
+-- only `solve` refuses settings
+pub asked_solve : (words : List (String Global)) (before after : SourceView) (err err' : SinkView) (r : Status) → r ≡ BadSettings
+    → (task : Task words before after) × Refuses (Answers task.given task.input) r err err' → AskToSolve words
+asked_solve words before after err err' r is refused =
+    let row : Answers refused.0.given refused.0.input BadSettings refused.1.line = subst (λ (s : Status). Answers refused.0.given refused.0.input s refused.1.line) is refused.1.is in
+    record { given = refused.0.given; form = refused.0.form; command = solve_refuses refused.0.given.command refused.0.given refused.0.input refused.1.line row }

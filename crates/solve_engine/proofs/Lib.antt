@@ -1,3 +1,3 @@
 pub mod Ending
-pub mod FaultLength
 pub mod Limited
+pub mod Sampled

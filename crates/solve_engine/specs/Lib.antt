@@ -1,7 +1,6 @@
-pub mod Code
-pub mod FaultLine
+pub mod Commands
 pub mod Outcome
+pub mod Sample
 pub mod Search
-pub mod Text
-pub mod Told
+pub mod Solve
 pub mod Words

@@ -1,15 +1,12 @@
 //! The whole of a run: words and settings come in, and the text of the best macro goes out; or the two lines of a sample.
 #![tactic(auto)]
 
-mod commands;
-mod fault_lines;
-mod reading;
+mod sample;
 mod searches;
-mod status;
-mod texts;
+mod solve;
 mod top;
 
-pub use status::Status;
+pub use run_io::Status;
 pub use top::run;
 
 #[cfg(test)]

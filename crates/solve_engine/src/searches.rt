@@ -1,11 +1,11 @@
 // The search for the best macro, by workers over shared tables.
 ghost use Rattle.std.specs.Prelude.{◌≡◌, ◌≤◌, IfOk, MatchOption, All, length};
-ghost use Rattle.craft_settings.specs.Ranges.{IsFromTo};
 ghost use Rattle.level_search.specs.Searching.{IsSearcherOf};
 ghost use Rattle.macro_order.specs.Order.{NothingCompletes};
 ghost use Rattle.prefix_fronts.specs.Prefix.{IsGreatest};
 ghost use Rattle.step_rules.specs.Macro.{IsReached};
 ghost use Rattle.seat_tables.specs.Seats.{IsOf};
+ghost use Rattle.solve_words.specs.Words.{AreInRange};
 ghost use Rattle.solve_engine.specs.Search.{IsFound};
 
 use action_table::{Action, WantMemory};
@@ -14,6 +14,7 @@ use level_search::{FoundMacro, Searcher, best_macro};
 use quality_bound::QualityTruth;
 use quality_pass::best_quality;
 use seat_tables::{Seat, Shared};
+use solve_words::Words;
 use std::alloc::Global;
 use std::thread::Threads;
 use step_bound::StepTruth;
@@ -28,19 +29,19 @@ pub(crate) struct Found {
     pub seat: Seat<QualityTruth>,
 }
 
-/// The best macro of a craft by 1 to 64 workers, over bounds at a grain, or None where no legal macro completes it.
+/// The best macro of a craft, by as many workers and over bounds at the grain that the words name, or None where no
+/// legal macro completes it.
 pub(crate) fn find<G: Gate>(
     rt: &(impl Threads + Sync),
     alloc: Global,
     g: &Settings,
-    grain: u32,
-    workers: u32,
+    given: &Words,
     gate: &G,
 ) -> Result<Option<Found>, WantMemory>
-    requires grain { IsFromTo 1 64 grain }
-    requires workers { IsFromTo 1 64 workers }
-    ensures { IfOk result (λ found. MatchOption found (NothingCompletes g.now) (IsFound g.now grain)) }
+    requires { AreInRange given.now }
+    ensures { IfOk result (λ found. MatchOption found (NothingCompletes g.now) (IsFound g.now given.now.grain)) }
 {
+    let Words { workers, grain, .. } = *given;
     let (table, first) = Shared::new(alloc, QualityTruth::new(g, grain))?;
     let seats = seats_of(alloc, &table, first, workers)?;
     let (quality, seats) = best_quality(rt, alloc, g, grain, &table, seats, gate)?;

@@ -2,9 +2,9 @@ use crate::{Status, run};
 use craft_io::{MemorySink, MemorySource};
 use std::alloc::{AllocError, Global};
 use std::process::Abort;
-use std::sync::atomic::{AtomicU64, Ordering};
 use std::test::Fail;
 use std::thread::Threads;
+use test_parts::Meeting;
 use worker_gate::{FreeGate, Gate};
 
 const EASY: &str = "steps 1 seconds 3 progress 100/100 quality 0/100
@@ -539,48 +539,13 @@ fn grains(rt: HostRuntime) -> Result<(), Fail> {
     Ok(())
 }
 
-// Each of two workers shows its flag at the gate, and waits there for the other's.
-#[derive(Drop)]
-struct Meeting {
-    first: AtomicU64,
-    second: AtomicU64,
-    missed: AtomicU64,
-}
-
-impl Meeting {
-    fn flag(&self, worker: u32) -> &AtomicU64 {
-        if worker == 0 {
-            &self.first
-        } else {
-            &self.second
-        }
-    }
-}
-
-impl Gate for Meeting {
-    fn pass(&self, worker: u32) {
-        self.flag(worker).store(1, Ordering::SeqCst);
-        let other = self.flag(1 - worker.min(1));
-        for _ in 0..100_000_000u32 {
-            if other.load(Ordering::SeqCst) == 1 {
-                return;
-            }
-        }
-        self.missed.store(1, Ordering::SeqCst);
-    }
-}
-
 #[test]
 fn workers_run_side_by_side(rt: HostRuntime) -> Result<(), Fail> {
-    let gate = Meeting {
-        first: AtomicU64::new(0),
-        second: AtomicU64::new(0),
-        missed: AtomicU64::new(0),
-    };
+    let gate = Meeting::new();
     let words = ["solve", "--workers=2", "--report=levels"];
     let want = (Status::Solved, ORDINARY.as_bytes(), "");
     gives_behind(&rt, &gate, &words, ORDINARY_FILE.as_bytes(), SOUND, want)?;
-    assert_eq!(rt; gate.missed.load(Ordering::SeqCst), 0);
+    assert!(rt; gate.have_met());
     Ok(())
 }
 

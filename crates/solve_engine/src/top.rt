@@ -1,20 +1,24 @@
 // The top call.
-ghost use Rattle.std.specs.Prelude.{◌≡◌, ◌≢◌, ◌↔◌, ◌⊎◌, Some, IfSome};
-ghost use Rattle.craft_io.specs.Causes.{ReadsAtMostTimes, Rose};
-ghost use Rattle.craft_settings.specs.Ranges.{SettingsFields};
-ghost use Rattle.craft_settings.specs.Accepts.{Accepts};
-ghost use Rattle.craft_settings.specs.Reading.{file_fault};
-ghost use Rattle.craft_settings.specs.declared.fault.SettingsFault.{SettingsFault};
-ghost use Rattle.sample_craft.specs.Sample.{sample_of};
+ghost use Rattle.std.specs.Prelude.{◌≡◌, ◌≢◌, ◌↔◌, ◌⊎◌, ◌≤◌, ℕ, List, IfSome, length};
+ghost use Rattle.craft_io.specs.Causes.{Rose};
+ghost use Rattle.craft_io.specs.Views.{GivesAtMost, GivesFewer, ReadsAtMostTimes};
+ghost use Rattle.run_io.specs.Answering.{CountsReadFault, CountsWriteFault, GivesTold, HasRow, Refuses, Tells, Writes, WritesPart};
+ghost use Rattle.run_io.specs.Halts.{IsIn, RunsTo};
+ghost use Rattle.run_io.specs.Reading.{ReadsAll};
+ghost use Rattle.run_io.specs.Statuses.{IsBeforeWriting, IsRefusal, IsResult, fault_line};
+ghost use Rattle.solve_words.specs.Words.{AreInRange};
 ghost use Rattle.solve_words.specs.declared.words.Words.{Words as WordsFields};
+ghost use Rattle.solve_engine.specs.Commands.{Answers, Task, most_for, most_of};
+ghost use Rattle.solve_engine.specs.Outcome.{IsDone};
+ghost use Rattle.solve_engine.specs.Sample.{SampleAnswers};
+ghost use Rattle.solve_engine.specs.Solve.{SolveAnswers};
 ghost use Rattle.solve_engine.specs.Words.{AreBad, Ask, AskToSample, AskToSolve};
-ghost use Rattle.solve_engine.specs.Told.{AnswersFor, AnswersSample, CountsReadFault, CountsWriteFault, HasText, IsAnswerTo, IsBeforeWriting, IsRefusal, TakesTold, TellsFault};
-ghost use Rattle.solve_engine.specs.Outcome.{ReadsFault, TakesAtMost, WritesBest, WritesNone, WritesPart, read_most};
 
-use crate::Status;
-use crate::commands::{carry_out, tell};
+use crate::sample::sample;
+use crate::solve::solve;
 use craft_io::{Sink, Source};
-use solve_words::{WordsFault, read_words};
+use run_io::{Answer, Halt, READ_MOST, Status, read_up_to, tell, write_answer};
+use solve_words::{Command, Words, WordsFault, read_words};
 use std::alloc::Global;
 use std::thread::Threads;
 use worker_gate::Gate;
@@ -35,57 +39,115 @@ pub fn run<S: Source, O: Sink, E: Sink, G: Gate>(
     err: &mut E,
     gate: &G,
 ) -> Status
-    // The text of the best macro was written, as the words ask for it, and nothing else.
-    ensures solved { result ≡ Status.Solved → (given : WordsFields) × Ask words.now given × WritesBest given (S.left source.old) (S.left source.new) (O.taken out.old) (O.taken out.new) }
-    // No legal macro completes, and the text for none was written.
-    ensures no_macro { result ≡ Status.NoMacro → (given : WordsFields) × Ask words.now given × WritesNone given (S.left source.old) (S.left source.new) (O.taken out.old) (O.taken out.new) }
+    // The headline. The bytes of the source, all of them, are accepted as settings, and what was written to `out` is the
+    // text of their best macro, as the words ask for it, or `none` where no legal macro completes.
+    ensures solve { (asked : AskToSolve words.now) → IsResult result
+        → (input : List ℕ) × ReadsAll input (S.view source.old) (S.view source.new)
+        × Writes (SolveAnswers asked.given input) result (O.view out.old) (O.view out.new) }
+    // The two lines on the best macro of a sample were written, or on none.
+    ensures sample { (asked : AskToSample words.now) → IsResult result
+        → Writes (SampleAnswers asked.given asked.number) result (O.view out.old) (O.view out.new) }
 
-    // The same of all bytes of the source, where it tells them: they are accepted as settings, and the text of these was written.
-    ensures headline { (asked : AskToSolve words.now) → HasText result → IfSome (S.left source.old) (λ bytes. AnswersFor asked.given bytes result (O.taken out.old) (O.taken out.new)) }
-    // Accepted settings are answered, and with `none` exactly where no legal macro completes, unless a read or a write fails or memory runs out.
-    ensures complete { AskToSolve words.now → (Rose (S.faults source.old) (S.faults source.new) → ⊥) → (Rose (O.faults out.old) (O.faults out.new) → ⊥)
-        → IfSome (S.left source.old) (λ bytes. (g : SettingsFields) → Accepts bytes g → IsAnswerTo g result) }
-    // All others are refused, unless a read fails or memory runs out.
-    ensures refuses { AskToSolve words.now → (Rose (S.faults source.old) (S.faults source.new) → ⊥)
-        → IfSome (S.left source.old) (λ bytes. (fault : SettingsFault) → file_fault bytes ≡ Some fault → IsRefusal result) }
-
-    // The lines of a sample were written.
-    ensures sampled { (asked : AskToSample words.now) → HasText result → AnswersSample asked.number asked.given.grain result (O.taken out.old) (O.taken out.new) }
-    // A sample is answered, unless a write fails or memory runs out.
-    ensures sample_complete { (asked : AskToSample words.now) → (Rose (O.faults out.old) (O.faults out.new) → ⊥) → IsAnswerTo (sample_of asked.number) result }
-
-    // Why each other answer comes.
+    // Of every command.
+    // It is answered, with a result or a refusal, unless a read or a write fails or memory runs out.
+    ensures complete { (given : WordsFields) → Ask words.now given
+        → (1 ≤ most_of given.command → Rose (S.view source.old).faults (S.view source.new).faults → ⊥)
+        → (Rose (O.view out.old).faults (O.view out.new).faults → ⊥)
+        → (result ≡ Status.WantMemory)
+        ⊎ ((task : Task words.now (S.view source.old) (S.view source.new)) × HasRow (Answers task.given task.input) result) }
+    // What was read is refused, and the line of its fault was told.
+    ensures refused { IsRefusal result → (task : Task words.now (S.view source.old) (S.view source.new))
+        × Refuses (Answers task.given task.input) result (E.view err.old) (E.view err.new) }
+    // A write failed; a part of the text of the result was written, and not the whole.
+    ensures part { result ≡ Status.WriteFault → (task : Task words.now (S.view source.old) (S.view source.new))
+        × WritesPart (Answers task.given task.input) (O.view out.old) (O.view out.new) }
+    // A read failed, before as much was read as is read at most.
+    ensures read_fault { result ≡ Status.ReadFault → (given : WordsFields) × Ask words.now given
+        × GivesFewer (most_of given.command) (S.view source.old) (S.view source.new) }
+    // The words aren't of the form.
     ensures bad_words { (result ≡ Status.BadWords) ↔ (AreBad words.now × (result ≢ Status.WantMemory)) }
-    ensures read_fault { result ≡ Status.ReadFault → Rose (S.faults source.old) (S.faults source.new) × AskToSolve words.now }
-    ensures bad_settings { result ≡ Status.BadSettings → (fault : SettingsFault) × ReadsFault fault (S.left source.old) (S.left source.new) × AskToSolve words.now }
-    ensures write_fault { result ≡ Status.WriteFault → Rose (O.faults out.old) (O.faults out.new) }
+    // Where one byte too many was read, what was read is refused or memory is wanted, and no read failed.
+    ensures too_long { 1 ≤ most_for words.now → GivesTold (most_for words.now) (S.view source.old) (S.view source.new)
+        → IsRefusal result ⊎ (result ≡ Status.WantMemory) }
 
     // A failed call of the source or of `out` is always told, and none is tried again.
-    ensures read_count { CountsReadFault result (S.faults source.old) (S.faults source.new) }
-    ensures write_count { CountsWriteFault result (O.faults out.old) (O.faults out.new) }
-    // Where one byte too many was read, the settings are refused or memory is wanted, and no read failed.
-    ensures too_long { TakesTold read_most (S.left source.old) (S.left source.new) → IsRefusal result }
+    ensures read_count { CountsReadFault result (S.view source.old).faults (S.view source.new).faults }
+    ensures write_count { CountsWriteFault result (O.view out.old).faults (O.view out.new).faults }
 
-    // What was read and written.
-    ensures nothing_read { AreBad words.now ⊎ AskToSample words.now → source.new ≡ source.old }
-    ensures at_most { TakesAtMost read_most (S.left source.old) (S.left source.new) }
-    ensures times { ReadsAtMostTimes read_most (S.reads source.old) (S.reads source.new) }
-    ensures part { result ≡ Status.WriteFault → (given : WordsFields) × Ask words.now given × WritesPart given (S.left source.old) (S.left source.new) (O.taken out.old) (O.taken out.new) }
+    // How much is read and written.
+    ensures at_most { GivesAtMost (most_for words.now) (S.view source.old) (S.view source.new) }
+    ensures times { ReadsAtMostTimes (most_for words.now) (S.view source.old) (S.view source.new) }
+    ensures nothing_read { most_for words.now ≡ 0 → source.new ≡ source.old }
     ensures nothing_written { IsBeforeWriting result → out.new ≡ out.old }
 
-    // What is told on `err`.
-    ensures told { TellsFault result (S.left source.old) (S.left source.new) (E.taken err.old) (E.taken err.new) (E.faults err.old) (E.faults err.new) }
-    ensures quiet { HasText result → err.new ≡ err.old }
+    // What is told on `err`, beside the lines of refusals.
+    ensures told { IfSome (fault_line result) (λ line. Tells line (E.view err.old) (E.view err.new)) }
+    ensures quiet { IsResult result → err.new ≡ err.old }
+{
+    match outcome_of(rt, alloc, words, source, gate) {
+        Ok(answer) => write_answer(out, err, &answer),
+        Err(halt) => tell(err, &halt),
+    }
+}
+
+// What the words come to before anything is written.
+fn outcome_of<S: Source, G: Gate>(
+    rt: &(impl Threads + Sync),
+    alloc: Global,
+    words: &[String],
+    source: &mut S,
+    gate: &G,
+) -> Result<Answer, Halt>
+    ensures done { IsDone words.now result (S.view source.old) (S.view source.new) }
+    ensures nothing_read { most_for words.now ≡ 0 → source.new ≡ source.old }
 {
     match read_words(alloc, words) {
-        Ok(given) => carry_out(rt, alloc, &given, source, out, err, gate),
-        Err(WordsFault::BadWords) => {
-            tell(err, b"words: not understood\n");
-            Status::BadWords
-        }
-        Err(WordsFault::WantMemory) => {
-            tell(err, b"memory: not enough\n");
-            Status::WantMemory
-        }
+        Ok(given) => carry_out(rt, alloc, &given, source, gate),
+        Err(WordsFault::BadWords) => Err(Halt::BadWords),
+        Err(WordsFault::WantMemory) => Err(Halt::WantMemory),
+    }
+}
+
+// The answer of a command to the input that it reads.
+fn carry_out<S: Source, G: Gate>(
+    rt: &(impl Threads + Sync),
+    alloc: Global,
+    given: &Words,
+    source: &mut S,
+    gate: &G,
+) -> Result<Answer, Halt>
+    requires { AreInRange given.now }
+    ensures runs { RunsTo (Answers given.now) (most_of given.now.command) result (S.view source.old) (S.view source.new) }
+    ensures nothing_read { most_of given.now.command ≡ 0 → source.new ≡ source.old }
+{
+    let input = read_up_to(alloc, source, most_of(given.command))?;
+    answer_to(rt, alloc, given, &input, gate)
+}
+
+// The answer of a command to its input.
+fn answer_to<G: Gate>(
+    rt: &(impl Threads + Sync),
+    alloc: Global,
+    given: &Words,
+    input: &[u8],
+    gate: &G,
+) -> Result<Answer, Halt>
+    requires range { AreInRange given.now }
+    requires within { length input.now ≤ most_of given.now.command }
+    ensures { IsIn (Answers given.now input.now) result }
+{
+    match given.command {
+        Command::Solve => solve(rt, alloc, given, input, gate),
+        Command::Sample(n) => sample(rt, alloc, given, n, gate),
+    }
+}
+
+// The most bytes that a command reads.
+fn most_of(command: Command) -> usize
+    ensures { result ≡ most_of command }
+{
+    match command {
+        Command::Solve => READ_MOST,
+        Command::Sample(_) => 0,
     }
 }

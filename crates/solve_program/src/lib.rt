@@ -1,8 +1,8 @@
 //! The program over a process: its words, and its standard input, output and error.
 #![tactic(auto)]
 
-ghost use Rattle.std.specs.Prelude.{◌≡◌, ◌≢◌, ◌↔◌, IfSome};
-ghost use Rattle.solve_engine.specs.Code.{code_of};
+ghost use Rattle.std.specs.Prelude.{◌≡◌, ◌≢◌, ◌↔◌};
+ghost use Rattle.run_io.specs.Statuses.{code_of};
 ghost use Rattle.solve_engine.specs.Words.{AreBad, AskToSolve};
 
 use craft_io::{StdSink, StdSource};

@@ -4,14 +4,15 @@ use Rattle.std.proofs.Common.{arith}
 use Rattle.craft_settings.specs.Ranges.{SettingsFields, AreSettings, IsFromTo}
 use Rattle.race_core.specs.declared.entry.Entry.{Entry}
 use Rattle.relaxed_moves.specs.Optimum.{one, reach}
-use Rattle.relaxed_moves.specs.Places.{most_moves, first_at, state_at}
+use Rattle.relaxed_moves.specs.Places.{first_at, state_at}
+use Rattle.relaxed_moves.specs.declared.places.TheConstants.{MOST_MOVES}
 use Rattle.relaxed_moves.proofs.Costs.{ArePriced-one}
 use Rattle.table_bound.specs.Bounds.{BoundRules, AreBoundRules, entry_by}
 use Rattle.table_bound.proofs.Fits.{moves_fit}
 
--- each move counts as one, and the table has budgets of up to 63 moves
+-- each move counts as one, and the table has budgets of up to the most moves
 abbrev pub moves_rules : SettingsFields → ℕ → BoundRules
-moves_rules g grain = record { g = g; grain = grain; price = one; least = 1; most = most_moves }
+moves_rules g grain = record { g = g; grain = grain; price = one; least = 1; most = MOST_MOVES }
 
 -- the entry of a place says the step optimum
 abbrev pub moves_entry : SettingsFields → ℕ → ℕ → Entry

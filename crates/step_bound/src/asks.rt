@@ -3,20 +3,17 @@ ghost use Rattle.std.specs.Prelude.{◌≡◌, ◌≤◌, Contains};
 ghost use Rattle.seat_tables.specs.Seats.{IsOf, StillSees};
 ghost use Rattle.step_rules.specs.Legality.{IsWithin};
 ghost use Rattle.relaxed_moves.specs.Optimum.{reach, within_of};
-ghost use Rattle.relaxed_moves.specs.Places.{most_moves, index_of};
+ghost use Rattle.relaxed_moves.specs.Places.{index_of};
 ghost use Rattle.relaxed_moves.specs.Scales.{IsScale};
 
 use crate::truth::StepTruth;
 use craft_state::State;
-use relaxed_moves::{Relaxed, Scale};
+use relaxed_moves::{MOST_MOVES, Relaxed, Scale};
 use seat_tables::{Seat, Shared};
 use table_bound::limit_within;
 
-// The greatest number of moves of the table.
-const MOST_MOVES: u32 = 63;
-
 /// The greatest gain of quality of the lists of at most `j` relaxed moves from `x` that do all the progress; None
-/// exactly where there is no such list. `j` is at most 63, and the bucket of `x` at most the grain. The seat has then
+/// exactly where there is no such list. `j` is at most `MOST_MOVES`, and the bucket of `x` at most the grain. The seat has then
 /// seen the index. No memory is taken, and nobody is waited for.
 pub fn ask(
     shared: &Shared<StepTruth>,
@@ -25,7 +22,7 @@ pub fn ask(
     x: &Relaxed,
 ) -> Option<u32>
     requires of { IsOf shared.now seat.old }
-    requires moves { j ≤ most_moves }
+    requires moves { j ≤ MOST_MOVES }
     requires bucket { x.now.bucket ≤ shared.now.truth.grain }
     ensures of { IsOf shared.now seat.new }
     ensures value { result ≡ reach shared.now.truth.g shared.now.truth.grain j x.now }
@@ -36,7 +33,7 @@ pub fn ask(
 }
 
 /// The most quality that counts of a macro through a live state after the first step, in at most `j` steps more; None
-/// where the progress can't be done in them. Above 63 steps it is the most that counts at all. No memory is taken,
+/// where the progress can't be done in them. Above `MOST_MOVES` steps it is the most that counts at all. No memory is taken,
 /// and nobody is waited for.
 pub fn within(
     shared: &Shared<StepTruth>,

@@ -4,31 +4,19 @@ ghost use Rattle.seat_tables.specs.Seats.{IsOf};
 use crate::{StepTruth, ask, within};
 use action_table::{Action, WantMemory};
 use craft_settings::Settings;
-use relaxed_moves::{Relaxed, at_bucket, of_index};
+use relaxed_moves::Relaxed;
 use seat_tables::{Seat, Shared};
 use std::alloc::Global;
 use std::test::Fail;
 use step_rules::{replay, start};
-
-const FIRST_TOUCH: Settings = Settings {
-    level: 5,
-    cp: 18,
-    durability: 20,
-    progress: 100,
-    quality: 500,
-    initial: 0,
-    base_progress: 100,
-    base_quality: 100,
-    forbidden: 0,
-    target: 500,
-    backload: false,
-};
+use test_crafts::{LEVEL_14, LEVEL_73, LEVEL_80, LEVEL_87, LEVEL_96, LEVEL_99, ONE_TOUCH};
+use test_parts::{Word, state_of};
 
 fn first_touch() -> StepTruth
     ensures { result.grain ≡ 16 }
 {
     StepTruth {
-        g: FIRST_TOUCH,
+        g: ONE_TOUCH,
         grain: 16,
     }
 }
@@ -82,114 +70,20 @@ fn each_step_counts(rt: HostRuntime) -> Result<(), Fail> {
     Ok(())
 }
 
-const CRAFT_14: Settings = Settings {
-    level: 14,
-    cp: 115,
-    durability: 50,
-    progress: 55,
-    quality: 574,
-    initial: 125,
-    base_progress: 191,
-    base_quality: 287,
-    forbidden: 33554432,
-    target: 527,
-    backload: false,
-};
-
-const CRAFT_87: Settings = Settings {
-    level: 87,
-    cp: 38,
-    durability: 20,
-    progress: 48,
-    quality: 680,
-    initial: 0,
-    base_progress: 72,
-    base_quality: 125,
-    forbidden: 41942974,
-    target: 631,
-    backload: false,
-};
-
-const CRAFT_73: Settings = Settings {
-    level: 73,
-    cp: 92,
-    durability: 20,
-    progress: 469,
-    quality: 1031,
-    initial: 0,
-    base_progress: 153,
-    base_quality: 85,
-    forbidden: 49807188,
-    target: 1031,
-    backload: true,
-};
-
-const CRAFT_96: Settings = Settings {
-    level: 96,
-    cp: 26,
-    durability: 30,
-    progress: 175,
-    quality: 44,
-    initial: 0,
-    base_progress: 165,
-    base_quality: 44,
-    forbidden: 0,
-    target: 44,
-    backload: false,
-};
-
-const CRAFT_80: Settings = Settings {
-    level: 80,
-    cp: 119,
-    durability: 65,
-    progress: 164,
-    quality: 116,
-    initial: 0,
-    base_progress: 164,
-    base_quality: 116,
-    forbidden: 67042814,
-    target: 116,
-    backload: true,
-};
-
-const CRAFT_99: Settings = Settings {
-    level: 99,
-    cp: 110,
-    durability: 65,
-    progress: 334,
-    quality: 2250,
-    initial: 0,
-    base_progress: 167,
-    base_quality: 242,
-    forbidden: 25017782,
-    target: 2250,
-    backload: true,
-};
-
-// Whether a word of the table says this: the number of moves, the effects number, the bucket and the optimum.
-fn says(
-    table: &Shared<StepTruth>,
-    seat: &mut Seat<StepTruth>,
-    word: &(u32, usize, u32, Option<u32>),
-) -> bool
+// Whether the table says this.
+fn says(table: &Shared<StepTruth>, seat: &mut Seat<StepTruth>, word: &Word) -> bool
     requires { IsOf table.now seat.old }
     ensures { IsOf table.now seat.new }
 {
     let (first, effects, bucket, most) = *word;
-    let truth = table.truth();
-    if effects >= 1100 || bucket > truth.grain || first > 63 {
-        return false;
+    match state_of(table.truth().grain, effects, bucket) {
+        Some(x) => first <= 63 && ask(table, seat, first, &x) == most,
+        None => false,
     }
-    let (_, x) = of_index(truth.grain, effects);
-    ask(table, seat, first, &at_bucket(&x, bucket)) == most
 }
 
-// Whether it says this of all of these words.
-fn says_all(
-    table: &Shared<StepTruth>,
-    seat: &mut Seat<StepTruth>,
-    words: &[(u32, usize, u32, Option<u32>)],
-) -> bool
+// Whether it says all of these words.
+fn says_all(table: &Shared<StepTruth>, seat: &mut Seat<StepTruth>, words: &[Word]) -> bool
     requires { IsOf table.now seat.old }
 {
     for word in words {
@@ -200,13 +94,8 @@ fn says_all(
     true
 }
 
-// Whether a craft's table says all of these words.
-fn told(
-    alloc: Global,
-    g: &Settings,
-    grain: u32,
-    words: &[(u32, usize, u32, Option<u32>)],
-) -> Result<bool, WantMemory>
+// Whether the table of a craft says all of these words.
+fn told(alloc: Global, g: &Settings, grain: u32, words: &[Word]) -> Result<bool, WantMemory>
     requires low { 1 ≤ grain }
     requires high { grain ≤ 64 }
 {
@@ -227,7 +116,7 @@ fn drawn_words(rt: HostRuntime) -> Result<(), Fail> {
         (27, 363, 6, Some(15092)),
         (22, 478, 7, Some(12495)),
     ];
-    assert!(rt; told(alloc, &CRAFT_14, 8, &words)?);
+    assert!(rt; told(alloc, &LEVEL_14, 8, &words)?);
     let words = [
         (63, 861, 0, Some(20054)),
         (43, 667, 0, Some(13908)),
@@ -238,7 +127,7 @@ fn drawn_words(rt: HostRuntime) -> Result<(), Fail> {
         (46, 227, 1, Some(13759)),
         (53, 131, 1, Some(15779)),
     ];
-    assert!(rt; told(alloc, &CRAFT_87, 1, &words)?);
+    assert!(rt; told(alloc, &LEVEL_87, 1, &words)?);
     let words = [
         (27, 648, 0, Some(4644)),
         (43, 755, 0, Some(7551)),
@@ -249,7 +138,7 @@ fn drawn_words(rt: HostRuntime) -> Result<(), Fail> {
         (6, 856, 11, Some(811)),
         (51, 197, 9, Some(8327)),
     ];
-    assert!(rt; told(alloc, &CRAFT_73, 12, &words)?);
+    assert!(rt; told(alloc, &LEVEL_73, 12, &words)?);
     let words = [
         (48, 358, 0, Some(10255)),
         (47, 150, 3, Some(9804)),
@@ -260,7 +149,7 @@ fn drawn_words(rt: HostRuntime) -> Result<(), Fail> {
         (59, 632, 4, Some(12420)),
         (50, 253, 4, Some(10390)),
     ];
-    assert!(rt; told(alloc, &CRAFT_96, 6, &words)?);
+    assert!(rt; told(alloc, &LEVEL_96, 6, &words)?);
     let words = [
         (60, 888, 6, Some(28234)),
         (4, 451, 0, Some(2249)),
@@ -271,7 +160,7 @@ fn drawn_words(rt: HostRuntime) -> Result<(), Fail> {
         (47, 341, 2, Some(21296)),
         (18, 236, 8, Some(7561)),
     ];
-    assert!(rt; told(alloc, &CRAFT_80, 9, &words)?);
+    assert!(rt; told(alloc, &LEVEL_80, 9, &words)?);
     let words = [
         (7, 542, 4, Some(4097)),
         (30, 556, 1, Some(17558)),
@@ -282,6 +171,6 @@ fn drawn_words(rt: HostRuntime) -> Result<(), Fail> {
         (52, 716, 4, Some(30672)),
         (19, 1068, 0, Some(12401)),
     ];
-    assert!(rt; told(alloc, &CRAFT_99, 8, &words)?);
+    assert!(rt; told(alloc, &LEVEL_99, 8, &words)?);
     Ok(())
 }

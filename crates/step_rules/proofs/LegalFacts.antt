@@ -1,5 +1,6 @@
 -- What legality says.
 use Rattle.std.proofs.Common.{◌≡◌, ◌≤◌, ◌<◌, ◌⊎◌, ◌&&◌, ◌==◌, ℕ, Bool, true, false, List, [], ◌∷◌, Option, Some, None, arith, refl, ap, ◌∙◌, not, if◌then◌else◌, is_none, nat_lt, inl, inr}
+use Rattle.plain_lemmas.proofs.Tests.{not_false, eq_from, lt_to, not_lt}
 use Rattle.std.proofs.lemmas.Bool.Decides.{nat_tests}
 use Rattle.std.specs.Option.{option_or}
 use Rattle.step_rules.specs.declared.legality.Illegal.{Illegal}
@@ -16,10 +17,6 @@ use Rattle.step_rules.specs.Legality.{is_legal, is_ready, is_among, reasons, fir
 
 -- ---- tests
 
-not_false : (b : Bool) → not b ≡ false → b ≡ true
-not_false true h = refl
-not_false false h = absurd (cc)
-
 -- the second of two tests fails, where the first holds and not both do
 clear : (a b : Bool) → (a && b) ≡ false → a ≡ true → b ≡ false
 clear true b h e = h
@@ -29,20 +26,11 @@ block : (a b : Bool) → (a ≡ true → b ≡ false) → (a && b) ≡ false
 block true b h = h refl
 block false b h = refl
 
-same_number : (m n : ℕ) → (m == n) ≡ true → m ≡ n
-same_number m n h = grind (arith, nat_tests)
-
 some_number : (n : ℕ) → (n == 0) ≡ false → 0 < n
 some_number n h = grind (arith, nat_tests)
 
 not_zero : (n : ℕ) → 0 < n → (n == 0) ≡ false
 not_zero n h = grind (arith, nat_tests)
-
-is_below : (m n : ℕ) → m < n → nat_lt m n ≡ true
-is_below m n h = grind (arith, nat_tests)
-
-enough : (has needs : ℕ) → nat_lt has needs ≡ false → needs ≤ has
-enough has needs h = grind (arith, nat_tests)
 
 affordable : (has needs : ℕ) → needs ≤ has → nat_lt has needs ≡ false
 affordable has needs h = grind (arith, nat_tests)
@@ -119,12 +107,12 @@ legal_facts g s action legal =
       free = h.1.0;
       first = λ is. not_false s.effects.first (clear (is_among action (MuscleMemory ∷ Reflect ∷ TrainedEye ∷ [])) (not s.effects.first) h.1.1.0 (among-openers action is));
       stacks = λ is. some_number s.effects.iq (clear (is_among action (ByregotsBlessing ∷ [])) (s.effects.iq == 0) h.1.1.1.0 (among-byregots action is));
-      ten = λ is. same_number s.effects.iq 10 (not_false (s.effects.iq == 10) (clear (is_among action (TrainedFinesse ∷ [])) (not (s.effects.iq == 10)) h.1.1.1.1.0 (among-finesse action is)));
-      no_waste = λ is. same_number s.effects.waste 0
+      ten = λ is. eq_from s.effects.iq 10 (not_false (s.effects.iq == 10) (clear (is_among action (TrainedFinesse ∷ [])) (not (s.effects.iq == 10)) h.1.1.1.1.0 (among-finesse action is)));
+      no_waste = λ is. eq_from s.effects.waste 0
           (not_false (s.effects.waste == 0) (clear (is_among action (PrudentTouch ∷ PrudentSynthesis ∷ [])) (not (s.effects.waste == 0)) h.1.1.1.1.1.0 (among-prudent action is)));
       ready = λ is. ready-is s.effects.perfection
           (not_false (is_ready s.effects.perfection) (clear (is_among action (TrainedPerfection ∷ [])) (not (is_ready s.effects.perfection)) h.1.1.1.1.1.1.0 (among-perfection action is)));
-      paid = enough s.cp (cp_cost_of action g.level s.effects.combo) h.1.1.1.1.1.1.1.0;
+      paid = not_lt s.cp (cp_cost_of action g.level s.effects.combo) h.1.1.1.1.1.1.1.0;
       live = h.1.1.1.1.1.1.1.1.0;
       in_time = h.1.1.1.1.1.1.1.1.1.0;
     }
@@ -173,7 +161,7 @@ pub effects_allow : (g : SettingsFields) (s : StateFields) (action : Action) →
 effects_allow g s MuscleMemory facts = ap (λ b. refused_unless b NotFirst) (facts.first (inl refl))
 effects_allow g s Reflect facts = ap (λ b. refused_unless b NotFirst) (facts.first (inr (inl refl)))
 effects_allow g s TrainedEye facts = ap (λ b. refused_unless b NotFirst) (facts.first (inr (inr refl)))
-effects_allow g s ByregotsBlessing facts = ap (λ b. refused_unless b NoStacks) (is_below 0 _ (facts.stacks refl))
+effects_allow g s ByregotsBlessing facts = ap (λ b. refused_unless b NoStacks) (lt_to 0 _ (facts.stacks refl))
 effects_allow g s TrainedFinesse facts = ap (λ n. refused_unless (n == 10) NotTen) (facts.ten refl)
 effects_allow g s PrudentTouch facts = ap (λ n. refused_unless (n == 0) UnderWaste) (facts.no_waste (inl refl))
 effects_allow g s PrudentSynthesis facts = ap (λ n. refused_unless (n == 0) UnderWaste) (facts.no_waste (inr refl))

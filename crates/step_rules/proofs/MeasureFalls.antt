@@ -40,7 +40,7 @@ measure-acted g s BasicSynthesis fives paid live = grind arith
 measure-acted g s _ fives paid live = grind arith
 
 -- the durability after what the action does at once is within the settings
-durability-acted : (g : SettingsFields) (s : StateFields) (action : Action) → s.durability ≤ g.durability → (acted_of g s action).durability ≤ g.durability
+pub durability-acted : (g : SettingsFields) (s : StateFields) (action : Action) → s.durability ≤ g.durability → (acted_of g s action).durability ≤ g.durability
 unfolding acted_of
 durability-acted g s action within = omega arith
 

@@ -1,5 +1,7 @@
 -- One more action of a run.
 use Rattle.std.proofs.Common.{◌≡◌, ◌++◌, ◌∷◌, [], List, Some, None, true, false, refl, if◌then◌else◌, arith, ℕ, ◌+◌, ◌<◌, take, get_or, length, ◌≤◌, ◌*◌, ◌/◌, subst, ap, slice_get, suc, zero}
+use Rattle.std.proofs.lemmas.Option.{slice_get-get_or}
+use Rattle.step_rules.specs.Macro.{Completes}
 use Rattle.craft_settings.specs.Ranges.{AreSettings}
 use Rattle.step_rules.specs.Legality.{IsWithin, start_of}
 use Rattle.step_rules.specs.Measure.{measure}
@@ -57,7 +59,7 @@ measure-run g from last (action ∷ rest) within ran =
       | false ↦ λ legal h. cc
     ] refl ran
 
--- no macro is longer than 272 steps
+-- no macro is longer than the most
 pub length-macro : (g : SettingsFields) (last : StateFields) (actions : List Action) →
     AreSettings g → run_of g (start_of g) actions ≡ Some last → length actions ≤ 272
 length-macro g last actions settings ran =
@@ -97,3 +99,15 @@ run_of-stopped g from state (first ∷ rest) (suc place) action ran at bad =
       | true ↦ λ h. run_of-stopped g (step_of g from first) state rest place action h at bad
       | false ↦ λ h. refl
     ] ran
+
+-- each action of a macro is legal in its turn
+pub next_legal : (g : SettingsFields) (state : StateFields) (actions : List Action) (place : ℕ) (d : Action) → place < length actions →
+    Completes g (start_of g) actions → run_of g (start_of g) (take place actions) ≡ Some state → is_legal g state (get_or actions place d) ≡ true
+next_legal g state actions place d inside completes ran =
+    elim (is_legal g state (get_or actions place d)) as (λ b. is_legal g state (get_or actions place d) ≡ b → b ≡ true) [
+      | true ↦ λ h. refl
+      | false ↦ λ h.
+          let stopped : run_of g (start_of g) actions ≡ None = run_of-stopped g (start_of g) state actions place (get_or actions place d) ran (slice_get-get_or actions place d inside) h in
+          let ended = completes.ran in
+          cc
+    ] refl

@@ -9,10 +9,6 @@ perfection_worth Ready = 8
 perfection_worth On = 4
 perfection_worth Spent = 0
 
--- no legal macro has more steps
-abbrev pub most_steps : ℕ
-most_steps = 272
-
 -- the measure of a state
 abbrev pub measure : StateFields → ℕ
 measure s =

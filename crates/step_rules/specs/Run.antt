@@ -13,7 +13,8 @@ run_of g s [] = Some s
 run_of g s (action ∷ rest) = if is_legal g s action then run_of g (step_of g s action) rest else None
 
 -- the actions before a place run, and the action at the place isn't legal
-pub record StopsAt (g : SettingsFields) (from : StateFields) (actions : List Action) (place : ℕ) (why : Illegal) (state : StateFields) : Type 0 where
+pub record StopsAt (g : SettingsFields) (from : StateFields) (actions : List Action) (place : ℕ) (why : Illegal)
+    (state : StateFields) : Type 0 where
   pub before : run_of g from (take place actions) ≡ Some state
   pub action : Action
   pub at : slice_get actions place ≡ Some action

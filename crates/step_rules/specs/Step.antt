@@ -1,14 +1,13 @@
 -- What a legal action does to a state. Every test is of the state before the step.
-use Rattle.std.specs.Prelude.{ℕ, false, ◌+◌, ◌-◌, ◌*◌, ◌/◌, ◌&&◌, nat_lt, nat_le, min, if◌then◌else◌}
+use Rattle.std.specs.Prelude.{ℕ, false, ◌+◌, ◌-◌, ◌*◌, ◌/◌, ◌&&◌, nat_lt, min, if◌then◌else◌}
 use Rattle.action_table.specs.declared.action.Action.{Action}
-use Rattle.action_table.specs.declared.action.Action.TheVariants.{ByregotsBlessing, RefinedTouch, Groundwork, TrainedEye, Manipulation, MastersMend, ImmaculateMend}
+use Rattle.action_table.specs.declared.action.Action.TheVariants.{Groundwork, TrainedEye, Manipulation, MastersMend, ImmaculateMend}
 use Rattle.action_table.specs.Table.{row_of}
 use Rattle.craft_numbers.specs.Gains.{progress_gain_of, quality_gain_of}
-use Rattle.craft_state.specs.declared.Combo.{Combo}
-use Rattle.craft_state.specs.declared.Combo.TheVariants.{Basic}
 use Rattle.craft_state.specs.declared.Perfection.TheVariants.{Spent}
 use Rattle.craft_state.specs.Craft.{EffectFields, StateFields}
 use Rattle.craft_settings.specs.Ranges.{SettingsFields}
+use Rattle.combo_effects.specs.Touches.{quality_efficiency, iq_after}
 use Rattle.combo_effects.specs.Combos.{cp_cost_of, wear_of, is_on, tick_of, after_of}
 use Rattle.step_rules.specs.Legality.{is_over}
 
@@ -24,11 +23,6 @@ progress_efficiency g s Groundwork =
     else (row_of Groundwork g.level).progress
 progress_efficiency g s action = (row_of action g.level).progress
 
--- the quality efficiency
-abbrev pub quality_efficiency : SettingsFields → EffectFields → Action → ℕ
-quality_efficiency g e ByregotsBlessing = 100 + 20 * e.iq
-quality_efficiency g e action = (row_of action g.level).quality
-
 -- the progress after the action's own gain
 abbrev pub progress_after : SettingsFields → StateFields → Action → ℕ
 progress_after g s action =
@@ -39,31 +33,24 @@ progress_after g s action =
     + progress_gain_of g.base_progress (progress_efficiency g s action) (nat_lt 0 s.effects.veneration) (nat_lt 0 s.effects.muscle))
     else s.progress
 
+-- the quality that a touch gains
+abbrev pub touch_gain : SettingsFields → EffectFields → Action → ℕ
+touch_gain g e action =
+    quality_gain_of g.base_quality (quality_efficiency g.level e.iq action) e.iq (nat_lt 0 e.innovation) (nat_lt 0 e.strides)
+
 -- the quality after the action's own gain
 abbrev pub quality_after : SettingsFields → StateFields → Action → ℕ
 quality_after g s TrainedEye = g.quality
 quality_after g s action =
     if nat_lt 0 (row_of action g.level).quality
     then
-    min g.quality
-    (s.quality
-    + quality_gain_of g.base_quality (quality_efficiency g s.effects action) s.effects.iq (nat_lt 0 s.effects.innovation) (nat_lt 0 s.effects.strides))
+    min g.quality (s.quality + touch_gain g s.effects action)
     else s.quality
-
--- the stacks that a touch adds
-abbrev pub stacks_of : SettingsFields → Combo → Action → ℕ
-stacks_of g Basic RefinedTouch = 2
-stacks_of g combo action = (row_of action g.level).stacks
-
--- the stacks after a touch
-abbrev pub iq_after : SettingsFields → EffectFields → Action → ℕ
-iq_after g e ByregotsBlessing = 0
-iq_after g e action = if nat_le 11 g.level then min 10 (e.iq + stacks_of g e.combo action) else e.iq
 
 -- the effects after what the action does at once
 abbrev pub used_effects : SettingsFields → EffectFields → Action → EffectFields
 used_effects g e action = record e {
-  iq = if nat_lt 0 (row_of action g.level).quality then iq_after g e action else e.iq;
+  iq = if nat_lt 0 (row_of action g.level).quality then iq_after g.level e.iq e.combo action else e.iq;
   strides = if nat_lt 0 (row_of action g.level).quality then 0 else e.strides;
   muscle = if nat_lt 0 (row_of action g.level).progress then 0 else e.muscle;
   perfection = if is_on e.perfection && nat_lt 0 (row_of action g.level).durability then Spent else e.perfection;

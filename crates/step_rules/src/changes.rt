@@ -1,14 +1,14 @@
 ghost use Rattle.std.specs.Prelude.{◌≡◌, ◌≤◌, ◌+◌, ◌*◌, ◌%◌, IsTrue};
 ghost use Rattle.step_rules.specs.Legality.{is_legal, IsWithin};
 ghost use Rattle.step_rules.specs.Measure.{measure};
-ghost use Rattle.step_rules.specs.Step.{acted_of, settled_of, step_of, progress_efficiency, quality_efficiency, progress_after, quality_after, stacks_of, iq_after, used_effects, upkeep, mend};
+ghost use Rattle.step_rules.specs.Step.{acted_of, settled_of, step_of, progress_efficiency, progress_after, quality_after, used_effects, upkeep, mend};
 
 use crate::legality::is_final;
 use action_table::{Action, row};
-use combo_effects::{after, cp_cost, tick, wear};
+use combo_effects::{after, cp_cost, quality_efficiency, stacks_after, tick, wear};
 use craft_numbers::{cap_add, progress_gain, quality_gain};
 use craft_settings::Settings;
-use craft_state::{Combo, Effects, Perfection, State};
+use craft_state::{Effects, Perfection, State};
 
 /// The state after a legal action. Each step lowers the measure by at least 4, so a craft ends.
 pub fn step(g: &Settings, s: &State, action: Action) -> State
@@ -69,7 +69,7 @@ fn next_progress(g: &Settings, s: &State, action: Action) -> u32
     }
     let gain = progress_gain(
         g.base_progress,
-        efficiency(g, s, action),
+        progress_efficiency(g, s, action),
         s.effects.veneration > 0,
         s.effects.muscle > 0,
     );
@@ -77,7 +77,7 @@ fn next_progress(g: &Settings, s: &State, action: Action) -> u32
 }
 
 // The progress efficiency, halved for Groundwork where the durability doesn't last.
-fn efficiency(g: &Settings, s: &State, action: Action) -> u32
+fn progress_efficiency(g: &Settings, s: &State, action: Action) -> u32
     ensures value { result ≡ progress_efficiency g.now s.now action }
     ensures range { result ≤ 400 }
 {
@@ -94,17 +94,15 @@ fn next_quality(g: &Settings, s: &State, action: Action) -> u32
     ensures value { result ≡ quality_after g.now s.now action }
     ensures within { result ≤ g.now.quality }
 {
-    let row = row(action, g.level);
-    let effects = &s.effects;
-    let efficiency = match action {
+    match action {
         Action::TrainedEye => return g.quality,
-        Action::ByregotsBlessing => 100 + 20 * effects.iq,
-        _ if row.quality == 0 => return s.quality,
-        _ => row.quality,
-    };
+        _ if row(action, g.level).quality == 0 => return s.quality,
+        _ => {}
+    }
+    let effects = &s.effects;
     let gain = quality_gain(
         g.base_quality,
-        efficiency,
+        quality_efficiency(action, g.level, effects.iq),
         effects.iq,
         effects.innovation > 0,
         effects.strides > 0,
@@ -119,7 +117,7 @@ fn use_effects(g: &Settings, effects: &Effects, action: Action) -> Effects
     let row = row(action, g.level);
     let mut next = *effects;
     if row.quality > 0 {
-        next.iq = next_iq(g, effects, action);
+        next.iq = stacks_after(action, g.level, effects.iq, effects.combo);
         next.strides = 0;
     }
     if row.progress > 0 {
@@ -130,23 +128,6 @@ fn use_effects(g: &Settings, effects: &Effects, action: Action) -> Effects
     }
     next.first = false;
     next
-}
-
-// The stacks after a touch.
-fn next_iq(g: &Settings, effects: &Effects, action: Action) -> u32
-    ensures value { result ≡ iq_after g.now effects.now action }
-    ensures range { result ≤ 10 }
-{
-    let stacks = match (effects.combo, action) {
-        (_, Action::ByregotsBlessing) => return 0,
-        (Combo::Basic, Action::RefinedTouch) => 2,
-        _ => row(action, g.level).stacks,
-    };
-    if g.level >= 11 {
-        cap_add(effects.iq, stacks, 10)
-    } else {
-        effects.iq
-    }
 }
 
 // Upkeep, time, the action's own effect and the combo.

@@ -2,7 +2,8 @@ ghost use Rattle.std.specs.Prelude.{◌≡◌, ◌≤◌, ◌/◌, is_ok, filter
 ghost use Rattle.std.specs.Result.{result_err};
 ghost use Rattle.action_table.specs.Table.{all_actions};
 ghost use Rattle.craft_settings.specs.Ranges.{SettingsFields};
-ghost use Rattle.step_rules.specs.Measure.{measure, most_steps};
+ghost use Rattle.step_rules.specs.Macro.{counted};
+ghost use Rattle.step_rules.specs.Measure.{measure};
 ghost use Rattle.step_rules.specs.Legality.{start_of, is_complete, is_over, is_legal, effect_reason, late_reason, reason_of, found_reason, IsWithin};
 
 use action_table::{Action, row};
@@ -37,11 +38,15 @@ pub enum Illegal {
     Backloaded,
 }
 
-/// The state in which a craft starts. From it a quarter of the measure bounds the number of steps, and is at most 272.
+/// No legal macro has more steps.
+pub const MOST_STEPS: u32 = 272;
+
+/// The state in which a craft starts. From it a quarter of the measure bounds the number of steps, and is at most
+/// `MOST_STEPS`.
 pub fn start(g: &Settings) -> State
     ensures value { result ≡ start_of g.now }
     ensures within { IsWithin g.now result }
-    ensures longest { measure result / 4 ≤ most_steps }
+    ensures longest { measure result / 4 ≤ MOST_STEPS }
 {
     State {
         cp: g.cp,
@@ -67,11 +72,25 @@ pub fn start(g: &Settings) -> State
     }
 }
 
+/// Whether the craft is complete: the progress is the recipe's.
+pub fn is_complete(g: &Settings, s: &State) -> bool
+    ensures { result ≡ is_complete g.now s.now }
+{
+    s.progress == g.progress
+}
+
+/// The quality of a state that counts: at most the recipe's, and at most what the settings ask for.
+pub fn counted(g: &Settings, s: &State) -> u32
+    ensures { result ≡ counted g.now s.now }
+{
+    g.cap().min(s.quality)
+}
+
 /// Whether the craft is over: the progress is the recipe's, or no durability is left.
 pub fn is_final(g: &Settings, s: &State) -> bool
     ensures { result ≡ is_over g.now s.now }
 {
-    s.progress == g.progress || s.durability == 0
+    is_complete(g, s) || s.durability == 0
 }
 
 /// Whether an action is legal, and else the first reason why it isn't.
@@ -144,17 +163,14 @@ fn last_reason(g: &Settings, s: &State, action: Action) -> Option<Illegal>
 }
 
 /// The legal actions, in action order. They stand inline, so no memory is taken.
-#[tactic(auto, using(crate::proofs::ActionOrder::filter_to_action))]
 pub fn legal(alloc: Global, g: &Settings, s: &State) -> SmallVec<Action, 32>
     ensures items { result.items ≡ filter (is_legal g.now s.now) all_actions }
     ensures inline { result.capacity ≡ 32 }
 {
     let mut found = SmallVec::new(alloc);
-    for number in 0..Action::COUNT {
-        if let Some(action) = Action::from_number(number) {
-            if check(g, s, action).is_ok() {
-                found.push_reserved(action);
-            }
+    for &action in Action::ALL.iter() {
+        if check(g, s, action).is_ok() {
+            found.push_reserved(action);
         }
     }
     found

@@ -1,38 +1,10 @@
-ghost use Rattle.std.specs.Prelude.{◌≡◌, ◌≤◌, ◌%◌};
-
 use super::*;
 use action_table::Action;
 use action_table::Action::*;
 use craft_settings::Settings;
 use craft_state::{Combo, Perfection, State};
 use std::test::Fail;
-
-// The settings of a craft with base values of 100 and nothing forbidden.
-fn craft(level: u32, cp: u32, durability: u32, progress: u32, quality: u32) -> Settings
-    requires level_low { 1 ≤ level }
-    requires level_high { level ≤ 100 }
-    requires cp { cp ≤ 1000 }
-    requires durability_low { 10 ≤ durability }
-    requires durability_high { durability ≤ 100 }
-    requires fives { durability % 5 ≡ 0 }
-    requires progress_low { 1 ≤ progress }
-    requires progress_high { progress ≤ 100000 }
-    requires quality { quality ≤ 100000 }
-{
-    Settings {
-        level,
-        cp,
-        durability,
-        progress,
-        quality,
-        initial: 0,
-        base_progress: 100,
-        base_quality: 100,
-        forbidden: 0,
-        target: quality,
-        backload: false,
-    }
-}
+use test_crafts::craft;
 
 // A state after a step: CP, durability, progress and quality; iq, waste, innovation, veneration, strides, muscle and
 // manipulation; combo and perfection.

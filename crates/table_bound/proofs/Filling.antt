@@ -1,8 +1,11 @@
 -- How a row comes to hold the optima of its buckets.
-use Rattle.std.proofs.Common.{◌≡◌, ◌⊎◌, inl, inr, ◌≢◌, ℕ, ◌+◌, ◌-◌, ◌^◌, ◌<◌, ◌≤◌, max, Bool, true, false, Option, Some, None, zero, suc, List, [], ◌∷◌, length, take, slice_index, slice_set, get_or-set_other, get_or-set_same, Contains, ◌==◌, refl, sym, ap, ◌∙◌, subst, arith, if◌then◌else◌}
+use Rattle.std.proofs.Common.{◌≡◌, ◌⊎◌, inl, inr, ◌≢◌, ℕ, ◌+◌, ◌-◌, ◌^◌, ◌<◌, ◌≤◌, max, Bool, true, false, Option, Some, None, zero, suc, List, [], ◌∷◌, length, take, get_or, slice_index, slice_set, get_or-set_other, get_or-set_same, Contains, ◌==◌, refl, sym, ap, ◌∙◌, subst, arith, if◌then◌else◌}
+use Rattle.std.proofs.lemmas.List.{take_all}
+use Rattle.relaxed_moves.proofs.Columns.{coded-max}
+use Rattle.plain_lemmas.proofs.Tests.{below_or_at}
 use Rattle.std.specs.Option.{option_map}
 use Rattle.action_table.specs.declared.action.Action.{Action}
-use Rattle.action_table.specs.Table.{number_of, all_actions}
+use Rattle.action_table.specs.Table.{all_actions}
 use Rattle.lane_front.specs.MaxPlus.{max_plus_of}
 use Rattle.race_core.specs.declared.entry.Entry.{Entry}
 use Rattle.race_core.specs.declared.view.View.{View}
@@ -28,11 +31,6 @@ coded-injective (Some v) (Some w) e = ap Some (let same : v ≡ w = omega arith 
 pub decoded : (number : ℕ) (a b : Option ℕ) → number ≡ coded a → number ≡ coded b → a ≡ b
 decoded number a b e f = coded-injective a b (sym e ∙ f)
 
-coded-max : (a b : Option ℕ) → coded (option_max a b) ≡ max (coded a) (coded b)
-coded-max None b = omega arith
-coded-max (Some a) None = omega arith
-coded-max (Some a) (Some b) = omega arith
-
 -- the kernel takes the greater of a number and a raised one
 max_plus-coded : (d gain : ℕ) (o : Option ℕ) → max_plus_of d (coded o) gain ≡ max d (coded (option_map (λ most. gain + most) o))
 max_plus-coded d gain None = omega arith
@@ -51,27 +49,21 @@ leads-begin r budget x row is = record {
 }
 
 -- one more first move was tried
-pub leads-more : (r : BoundRules) (budget : ℕ) (x : RelaxedFields) (n : ℕ) (action : Action) (old new : List ℕ) → length new ≡ length old → number_of action ≡ n
-    → Leads r budget x n old → TakesIn r budget x action old new → Leads r budget x (n + 1) new
-leads-more r budget x n action old new long at before takes = record {
+pub leads-more : (r : BoundRules) (budget : ℕ) (x : RelaxedFields) (n : ℕ) (d : Action) (old new : List ℕ) → length new ≡ length old → n < length all_actions
+    → Leads r budget x n old → TakesIn r budget x (get_or all_actions n d) old new → Leads r budget x (n + 1) new
+leads-more r budget x n d old new long inside_all before takes = record {
   at = λ b lt.
       let inside : b < length old = omega (arith, lt, long) in
       takes.at b inside
-      ∙ ap (λ k. max k (coded (leads_with r.price r.g r.grain budget (at_bucket x b) action))) (before.at b inside)
-      ∙ sym (ap coded (leads-take r.price r.g r.grain budget (at_bucket x b) action n at) ∙ coded-max (leads r.price r.g r.grain budget (at_bucket x b) (take n all_actions)) (leads_with r.price r.g r.grain budget (at_bucket x b) action));
+      ∙ ap (λ k. max k (coded (leads_with r.price r.g r.grain budget (at_bucket x b) (get_or all_actions n d)))) (before.at b inside)
+      ∙ sym (ap coded (leads-take r.price r.g r.grain budget (at_bucket x b) n d inside_all) ∙ coded-max (leads r.price r.g r.grain budget (at_bucket x b) (take n all_actions)) (leads_with r.price r.g r.grain budget (at_bucket x b) (get_or all_actions n d)));
 }
 
-take_all : {A : Type 0} (xs : List A) (n : ℕ) → length xs ≤ n → take n xs ≡ xs
-take_all [] zero h = refl
-take_all [] (suc n) h = refl
-take_all (x ∷ xs) zero h = absurd (let no : ⊥ = omega (arith, h) in no)
-take_all (x ∷ xs) (suc n) h = ap (λ ys. x ∷ ys) (take_all xs n (omega (arith, h)))
-
 -- every first move was tried
-pub leads-column : (r : BoundRules) (budget : ℕ) (x : RelaxedFields) (n : ℕ) (row : List ℕ) → AreBoundRules r → 26 ≤ n → Leads r budget x n row → IsColumn r budget x row
+pub leads-column : (r : BoundRules) (budget : ℕ) (x : RelaxedFields) (n : ℕ) (row : List ℕ) → AreBoundRules r → length all_actions ≤ n → Leads r budget x n row → IsColumn r budget x row
 leads-column r budget x n row rules all h = record {
   at = λ b lt.
-      h.at b lt ∙ ap (λ tried. coded (leads r.price r.g r.grain budget (at_bucket x b) tried)) (take_all all_actions n all)
+      h.at b lt ∙ ap (λ tried. coded (leads r.price r.g r.grain budget (at_bucket x b) tried)) (take_all n all_actions all)
       ∙ ap coded (leads-all r.price r.g r.grain budget (at_bucket x b) rules.priced);
 }
 
@@ -105,9 +97,6 @@ lowers r budget x down column moved is long up = record {
       let there : b - down < length column = omega (arith, inside) in
       up b inside ∙ is.at (b - down) there;
 }
-
-below_or_at : (b n : ℕ) → b < n + 1 → (b < n) ⊎ (b ≡ n)
-below_or_at b n h = grind arith
 
 -- one bucket more was seen
 pub sees-more : {T : Type 0} (n : ℕ) (r : BoundRules) (budget : ℕ) (x : RelaxedFields) (v w : View T) → StillSees v w

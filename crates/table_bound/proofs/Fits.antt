@@ -8,13 +8,14 @@ use Rattle.step_rules.specs.Macro.{IsReached}
 use Rattle.relaxed_moves.specs.Columns.{coded}
 use Rattle.relaxed_moves.specs.Moves.{RelaxedFields, AreRelaxed, relax_of}
 use Rattle.relaxed_moves.specs.Optimum.{option_le}
-use Rattle.relaxed_moves.specs.Places.{most_budget, most_moves, first_at, state_at}
+use Rattle.relaxed_moves.specs.Places.{first_at, state_at}
+use Rattle.relaxed_moves.specs.declared.places.TheConstants.{MOST_BUDGET, MOST_MOVES}
 use Rattle.relaxed_moves.proofs.Sizes.{best_plan-small}
 use Rattle.relaxed_moves.proofs.Indices.{AreRelaxed-state_at}
 use Rattle.table_bound.specs.Bounds.{BoundRules, AreBoundRules, optimum, entry_by, size_by, entry_at}
 
 -- the greatest number of moves is no greater than the greatest budget
-pub moves_fit : most_moves ≤ most_budget
+pub moves_fit : MOST_MOVES ≤ MOST_BUDGET
 moves_fit = omega arith
 
 pub size_fits : (r : BoundRules) → AreBoundRules r → size_by r < 2 ^ 32
@@ -56,11 +57,6 @@ coded_small r budget x rules bounds within =
 
 within_by : (o : Option ℕ) (n v : ℕ) → option_le o (Some n) → o ≡ Some v → v ≤ n
 within_by o n v h e = subst (λ p. option_le p (Some n)) e h
-
--- what the bounds see of a state keeps its bounds
-pub AreRelaxed-relax : (g : SettingsFields) (grain : ℕ) (s : StateFields) → AreEffects s.effects → AreRelaxed (relax_of g grain s)
-unfolding relax_of
-AreRelaxed-relax g grain s effects = record { iq = effects.iq; innovation = effects.innovation; veneration = effects.veneration }
 
 -- the quality with one more gain fits
 pub gain_fits : (r : BoundRules) (budget v quality : ℕ) (x : RelaxedFields) → AreBoundRules r → AreRelaxed x → budget ≤ r.most → quality ≤ 100000

@@ -6,7 +6,8 @@ use Rattle.race_core.specs.declared.entry.Entry.{Entry}
 use Rattle.race_core.specs.declared.entry.Entry.TheVariants.{NoList, Best}
 use Rattle.relaxed_moves.specs.Moves.{RelaxedFields}
 use Rattle.relaxed_moves.specs.Optimum.{ArePriced, best_plan}
-use Rattle.relaxed_moves.specs.Places.{most_budget, place_count, first_at, state_at}
+use Rattle.relaxed_moves.specs.Places.{place_count, first_at, state_at}
+use Rattle.relaxed_moves.specs.declared.places.TheConstants.{MOST_BUDGET}
 
 -- the craft, the grain of its buckets, the price of each move, a number that no price is below, and the greatest budget of the table
 pub record BoundRules : Type 0 where
@@ -22,7 +23,7 @@ pub record AreBoundRules (r : BoundRules) : Type 0 where
   pub grain : IsFromTo 1 64 r.grain
   pub priced : ArePriced r.price r.g
   pub positive : 1 ≤ r.least
-  pub most : r.most ≤ most_budget
+  pub most : r.most ≤ MOST_BUDGET
 
 -- the entry that says an optimum
 abbrev pub entry_by : Option ℕ → Entry

@@ -31,25 +31,29 @@ pub record IsLowered (r : BoundRules) (budget : ℕ) (x : RelaxedFields) (down :
 
 -- the row has in each place the greatest gain of the plans whose first move was tried
 pub record Leads (r : BoundRules) (budget : ℕ) (x : RelaxedFields) (tried : ℕ) (row : List ℕ) : Type 0 where
-  pub at : (bucket : ℕ) → bucket < length row → slice_index row bucket ≡ coded (leads r.price r.g r.grain budget (at_bucket x bucket) (take tried all_actions))
+  pub at : (bucket : ℕ) → bucket < length row → slice_index row bucket ≡
+      coded (leads r.price r.g r.grain budget (at_bucket x bucket) (take tried all_actions))
 
 -- the row has in each place the greater of what it had and what plans with this first move gain
 pub record TakesIn (r : BoundRules) (budget : ℕ) (x : RelaxedFields) (action : Action) (before after : List ℕ) : Type 0 where
   pub at : (bucket : ℕ) → bucket < length before
-      → slice_index after bucket ≡ max (slice_index before bucket) (coded (leads_with r.price r.g r.grain budget (at_bucket x bucket) action))
+      → slice_index after bucket ≡ max (slice_index before bucket)
+      (coded (leads_with r.price r.g r.grain budget (at_bucket x bucket) action))
 
 -- the action leads to no plan, from any bucket
 pub record LeadsNowhere (r : BoundRules) (budget : ℕ) (x : RelaxedFields) (action : Action) : Type 0 where
   pub at : (bucket : ℕ) → leads_with r.price r.g r.grain budget (at_bucket x bucket) action ≡ None
 
 -- the action leads from each bucket to one that is so much lower in the next column, and gains the same in all
-pub record LeadsDown (r : BoundRules) (budget : ℕ) (x : RelaxedFields) (action : Action) (rest gain down : ℕ) (next : RelaxedFields) : Type 0 where
+pub record LeadsDown (r : BoundRules) (budget : ℕ) (x : RelaxedFields) (action : Action) (rest gain down : ℕ)
+    (next : RelaxedFields) : Type 0 where
   pub less : rest + r.least ≤ budget
   pub small : gain ≤ 100000
   pub low : down ≤ r.grain
   pub bounds : AreRelaxed next
   pub at : (bucket : ℕ) → bucket ≤ r.grain
-      → leads_with r.price r.g r.grain budget (at_bucket x bucket) action ≡ option_map (λ most. gain + most) (optimum r rest (at_bucket next (bucket - down)))
+      → leads_with r.price r.g r.grain budget (at_bucket x bucket) action ≡
+      option_map (λ most. gain + most) (optimum r rest (at_bucket next (bucket - down)))
 
 -- the seat has seen the places of the buckets below n
 pub record SeesBuckets {T : Type 0} (n : ℕ) (r : BoundRules) (budget : ℕ) (x : RelaxedFields) (view : View T) : Type 0 where

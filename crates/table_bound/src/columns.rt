@@ -104,7 +104,8 @@ fn take_turn<T: Bound>(
     requires of { IsOf shared.now seat.old }
     requires scale { IsScale (T.rules shared.now.truth).g (T.rules shared.now.truth).grain scale.now }
     requires column { IsPlaced (T.rules shared.now.truth) column.now.budget column.now.x column.now.bottom }
-    requires turn { LeadsDown (T.rules shared.now.truth) column.now.budget column.now.x action turn.now.column.budget turn.now.gain turn.now.down turn.now.column.x }
+    requires turn { LeadsDown (T.rules shared.now.truth) column.now.budget column.now.x action turn.now.column.budget turn.now.gain
+        turn.now.down turn.now.column.x }
     requires placed { IsPlaced (T.rules shared.now.truth) turn.now.column.budget turn.now.column.x turn.now.column.bottom }
     requires after { length after.old ≡ (T.rules shared.now.truth).grain + 1 }
     requires row { length row.old ≡ (T.rules shared.now.truth).grain + 1 }
@@ -158,7 +159,8 @@ fn fill<T: Bound>(
     requires row { length row.old ≡ (T.rules shared.now.truth).grain + 1 }
     ensures of { IsOf shared.now seat.new }
     ensures row { IsColumn (T.rules shared.now.truth) column.now.budget column.now.x row.new }
-    ensures seen { SeesBuckets ((T.rules shared.now.truth).grain + 1) (T.rules shared.now.truth) column.now.budget column.now.x seat.new.view }
+    ensures seen { SeesBuckets ((T.rules shared.now.truth).grain + 1)
+        (T.rules shared.now.truth) column.now.budget column.now.x seat.new.view }
     ensures still { StillSees seat.old.view seat.new.view }
 {
     let mut after = [0u32; MOST_BUCKETS];
@@ -183,15 +185,14 @@ fn fill_by<T: Bound>(
     requires row { length row.old ≡ (T.rules shared.now.truth).grain + 1 }
     ensures of { IsOf shared.now seat.new }
     ensures row { IsColumn (T.rules shared.now.truth) column.now.budget column.now.x row.new }
-    ensures seen { SeesBuckets ((T.rules shared.now.truth).grain + 1) (T.rules shared.now.truth) column.now.budget column.now.x seat.new.view }
+    ensures seen { SeesBuckets ((T.rules shared.now.truth).grain + 1)
+        (T.rules shared.now.truth) column.now.budget column.now.x seat.new.view }
     ensures still { StillSees seat.old.view seat.new.view }
 {
     let truth = shared.truth();
     begin(row);
-    for number in 0..Action::COUNT {
-        if let Some(action) = Action::from_number(number) {
-            take_in(shared, seat, &truth, scale, column, action, after, row);
-        }
+    for &action in Action::ALL.iter() {
+        take_in(shared, seat, &truth, scale, column, action, after, row);
     }
     put_column(shared, seat, column, row);
 }

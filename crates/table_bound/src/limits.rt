@@ -27,7 +27,8 @@ pub fn limit_within<T: Bound>(
     requires budget { budget ≤ (T.rules shared.now.truth).most }
     requires within { IsWithin (T.rules shared.now.truth).g s.now }
     ensures of { IsOf shared.now seat.new }
-    ensures value { result ≡ capped (T.rules shared.now.truth).g s.now (optimum (T.rules shared.now.truth) budget (relax_of (T.rules shared.now.truth).g (T.rules shared.now.truth).grain s.now)) }
+    ensures value { result ≡ capped (T.rules shared.now.truth).g s.now (optimum (T.rules shared.now.truth) budget
+        (relax_of (T.rules shared.now.truth).g (T.rules shared.now.truth).grain s.now)) }
     ensures still { StillSees seat.old.view seat.new.view }
 {
     let truth = shared.truth();

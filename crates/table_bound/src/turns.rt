@@ -25,7 +25,8 @@ pub(crate) fn turn_by<T: Bound>(
 ) -> Option<Turn>
     requires scale { IsScale (T.rules truth.now).g (T.rules truth.now).grain scale.now }
     requires column { IsPlaced (T.rules truth.now) column.now.budget column.now.x column.now.bottom }
-    ensures turn { MatchOption result (LeadsNowhere (T.rules truth.now) column.now.budget column.now.x action) (λ turn. LeadsDown (T.rules truth.now) column.now.budget column.now.x action turn.column.budget turn.gain turn.down turn.column.x) }
+    ensures turn { MatchOption result (LeadsNowhere (T.rules truth.now) column.now.budget column.now.x action) (λ turn.
+        LeadsDown (T.rules truth.now) column.now.budget column.now.x action turn.column.budget turn.gain turn.down turn.column.x) }
     ensures placed { IfSome result (λ turn. IsPlaced (T.rules truth.now) turn.column.budget turn.column.x turn.column.bottom) }
 {
     let g = truth.settings();

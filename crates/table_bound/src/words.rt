@@ -53,7 +53,8 @@ fn index_at<T: Bound>(shared: &Shared<T>, column: &Column, bucket: u32) -> usize
     requires bucket { bucket ≤ (T.rules shared.now.truth).grain }
     ensures value { result ≡ index_of (T.rules shared.now.truth).grain column.now.budget (at_bucket column.now.x bucket) }
     ensures inside { result < T.size shared.now.truth }
-    ensures entry { T.entry shared.now.truth result ≡ entry_by (optimum (T.rules shared.now.truth) column.now.budget (at_bucket column.now.x bucket)) }
+    ensures entry { T.entry shared.now.truth result ≡ entry_by (optimum (T.rules shared.now.truth) column.now.budget
+        (at_bucket column.now.x bucket)) }
 {
     let truth = shared.truth();
     bucket_place(
@@ -95,7 +96,8 @@ pub(crate) fn look_at<T: Bound>(
     requires column { IsPlaced (T.rules shared.now.truth) column.now.budget column.now.x column.now.bottom }
     requires bucket { bucket ≤ (T.rules shared.now.truth).grain }
     ensures of { IsOf shared.now seat.new }
-    ensures value { IfSome result (λ entry. entry ≡ entry_by (optimum (T.rules shared.now.truth) column.now.budget (at_bucket column.now.x bucket))) }
+    ensures value { IfSome result (λ entry. entry ≡ entry_by (optimum (T.rules shared.now.truth) column.now.budget
+        (at_bucket column.now.x bucket))) }
     ensures still { StillSees seat.old.view seat.new.view }
 {
     let place = index_at(shared, column, bucket);
@@ -115,7 +117,8 @@ pub(crate) fn tell<T: Bound>(
     requires bucket { bucket ≤ (T.rules shared.now.truth).grain }
     requires entry { entry ≡ entry_by (optimum (T.rules shared.now.truth) column.now.budget (at_bucket column.now.x bucket)) }
     ensures of { IsOf shared.now seat.new }
-    ensures seen { Contains seat.new.view.seen (index_of (T.rules shared.now.truth).grain column.now.budget (at_bucket column.now.x bucket)) }
+    ensures seen { Contains seat.new.view.seen (index_of (T.rules shared.now.truth).grain column.now.budget
+        (at_bucket column.now.x bucket)) }
     ensures still { StillSees seat.old.view seat.new.view }
 {
     let place = index_at(shared, column, bucket);

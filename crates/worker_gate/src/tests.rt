@@ -1,8 +1,7 @@
 ghost use Rattle.std.specs.Prelude.{◌≡◌, ℕ, ◌+◌, ◌-◌, ◌<◌, ◌≤◌, length, slice_index, slice_index_or, All};
 ghost use Rattle.worker_gate.specs.Cut.{cut};
 
-use crate::{FreeGate, Gate, each, range_of};
-use std::sync::atomic::{AtomicU64, Ordering};
+use crate::{FreeGate, each, range_of};
 use std::thread::Threads;
 
 #[test]
@@ -64,50 +63,4 @@ fn reads_each_range(rt: HostRuntime) {
     let mut readers = [Reader { table: 7, seen: 0 }, Reader { table: 7, seen: 0 }];
     read_all(&rt, &mut readers, 11);
     assert!(rt; readers[0].seen == 5 && readers[1].seen == 6);
-}
-
-// Each of two workers shows its flag at the gate, and waits there for the other's.
-#[derive(Drop)]
-struct Meeting {
-    first: AtomicU64,
-    second: AtomicU64,
-    met: AtomicU64,
-}
-
-impl Meeting {
-    fn flag(&self, worker: u32) -> &AtomicU64 {
-        if worker == 0 {
-            &self.first
-        } else {
-            &self.second
-        }
-    }
-}
-
-impl Gate for Meeting {
-    fn pass(&self, worker: u32) {
-        self.flag(worker).store(1, Ordering::SeqCst);
-        let other = self.flag(1 - worker.min(1));
-        for _ in 0..100_000_000u32 {
-            if other.load(Ordering::SeqCst) == 1 {
-                self.met.fetch_add(1, Ordering::SeqCst);
-                return;
-            }
-        }
-    }
-}
-
-#[test]
-fn run_side_by_side(rt: HostRuntime) {
-    let gate = Meeting {
-        first: AtomicU64::new(0),
-        second: AtomicU64::new(0),
-        met: AtomicU64::new(0),
-    };
-    let mut passed = [0u64; 2];
-    each(&rt, &mut passed, &gate, |k, passed: &mut u64| {
-        *passed = gate.flag(k).load(Ordering::SeqCst);
-    });
-    assert!(rt; passed == [1, 1]);
-    assert_eq!(rt; gate.met.load(Ordering::SeqCst), 2);
 }

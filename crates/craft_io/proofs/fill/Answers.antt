@@ -24,11 +24,14 @@ loop-at-preserved g c =
     let within : from ≤ length c.loop-at.buf = omega arith in
     let part = slice_range-put_mid from room c.in_ok-count.count c.loop-at.buf c.read.new.buf within c.in_ok-count.ensures.bound.0 in
     let joined = take_split from (from + c.in_ok-count.count) c.loop-at.buf (put_mid from room c.loop-at.buf c.read.new.buf) (omega arith) (take-put_mid_below _ _ _ _ _ (le_refl _) within) in
-    record {
-      kept = search rules;
-      within = search rules;
-      bytes = subst (Consumes _ _) (ap (λ l. take from c.loop-at.buf ++ l) (sym part) ∙ joined) (Consumes-trans _ _ _ _ _ c.loop-at.invariant.bytes c.in_ok-count.ensures.bytes.0);
-      quiet = search rules;
-      counted = search rules;
-      each = search rules;
-    }
+    let kept = c.loop-at.invariant.0 in (
+      record {
+        kept = search rules;
+        within = search rules;
+        bytes = subst (Consumes _ _) (ap (λ l. take from c.loop-at.buf ++ l) (sym part) ∙ joined) (Consumes-trans _ _ _ _ _ kept.bytes c.in_ok-count.ensures.bytes.0);
+        quiet = search rules;
+        counted = search rules;
+        each = search rules;
+      },
+      λ none. absurd (omega (arith, c.in_ok-count.ensures.bound.0)),
+    )

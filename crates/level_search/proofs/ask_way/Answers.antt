@@ -1,11 +1,11 @@
 use Rattle.std.proofs.Common.{◌≡◌, ℕ, ◌+◌, ◌-◌, ◌<◌, ◌≤◌, Some, length, take, arith, subst}
 use Rattle.step_rules.specs.Legality.{start_of}
 use Rattle.step_rules.specs.Run.{run_of}
-use Rattle.step_rules.proofs.Runs.{length-macro}
+use Rattle.step_rules.proofs.Runs.{length-macro, next_legal}
 use Rattle.admissible.proofs.Reached.{potential-reached}
 use Rattle.level_search.proofs.Crafts.{aim-settings}
 use Rattle.level_search.proofs.Joined.{still_searches-trans}
-use Rattle.level_search.proofs.Ways.{next_legal, next_ran, seen_more}
+use Rattle.level_search.proofs.Ways.{next_ran, seen_more}
 use Rattle.level_search.proofs.ask_way.Goals as goal
 
 pub step-state-requires-clause-legal : goal.step-state-requires-clause-legal

@@ -1,11 +1,11 @@
 use Rattle.std.proofs.Common.{sym}
-use Rattle.prefix_fronts.proofs.Members.{Among-Contains}
+use Rattle.plain_lemmas.proofs.Places.{Contains-Among}
 use Rattle.prefix_fronts.proofs.Dominated.{never-dominated, best-survives}
 use Rattle.prefix_fronts.proofs.dominated_law.Goals as goal
 
 pub returns-clause-none : goal.returns-clause-none
 returns-clause-none c g m k p q settings best h cut =
-    never-dominated g m k p q settings best (Among-Contains _ p h.first) (Among-Contains _ q h.second) (sym cut) h.over
+    never-dominated g m k p q settings best (Contains-Among _ p h.first) (Contains-Among _ q h.second) (sym cut) h.over
 
 pub returns-clause-each : goal.returns-clause-each
 returns-clause-each c g m k settings best below = best-survives g m k settings best below

@@ -10,5 +10,5 @@ use Rattle.craft_settings.proofs.reader.check_values.Goals as goal
 pub returns-clause-in_range : goal.returns-clause-in_range
 returns-clause-in_range c =
     let none : first_some (fault_at Range (table_view c.args.doc.now)) (places c.args.two) ≡ None =
-    rw (← c.places-places.ensures.places, ← c.in_default-first_fault-2.is) (sym c.first_fault-3.ensures) in
+    rw (← c.in_default-first_fault-2.is) (sym c.first_fault-3.ensures) in
     IsInRange-from c.args.two _ none

@@ -1,10 +1,11 @@
 use Rattle.std.proofs.Common.{◌≡◌, ◌∙◌, sym, ℕ, ◌+◌, ◌<◌, ◌≤◌, ◌^◌, ap, subst, Some, None, arith}
+use Rattle.relaxed_moves.proofs.Order.{AreRelaxed-relax}
 use Rattle.craft_settings.specs.Ranges.{SettingsFields}
 use Rattle.craft_state.specs.Craft.{StateFields}
 use Rattle.relaxed_moves.specs.Budget.{start_potential_of}
 use Rattle.relaxed_moves.specs.Moves.{AreRelaxed, relax_of}
 use Rattle.admissible.proofs.Reached.{potential-reached}
-use Rattle.table_bound.proofs.Fits.{AreRelaxed-relax, gain_fits}
+use Rattle.table_bound.proofs.Fits.{gain_fits}
 use Rattle.quality_bound.specs.declared.truth.QualityTruth.{QualityTruth}
 use Rattle.quality_bound.specs.Truths.{quality_rules, are_quality_rules}
 use Rattle.quality_pass.specs.Passes.{NoBetter}

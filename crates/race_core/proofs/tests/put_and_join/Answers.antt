@@ -1,4 +1,5 @@
 use Rattle.std.proofs.Common.{◌≡◌, ◌∷◌, [], IfOk, Result, Ok, Err, MatchResult, Some, None, false, List, sym, refl, subst}
+use Rattle.race_core.proofs.Outcomes.{where-ok}
 use Rattle.race_core.specs.declared.entry.Entry.TheVariants.{Best}
 use Rattle.race_core.specs.declared.event.Event.{Event}
 use Rattle.race_core.specs.declared.event.Event.TheVariants.{Load, Put, Split, Join}
@@ -7,10 +8,6 @@ use Rattle.race_core.proofs.tests.put_and_join.Goals as goal
 
 abbrev events : List Event
 events = Load 0 7 ∷ Split 0 ∷ Put 1 7 (Best 0) ∷ Join 0 1 ∷ Load 1 7 ∷ []
-
-where-ok : {A B C : Type 0} (P : C → Type 0) (r : Result A B) (x y : C) (Q : B → Type 0) → MatchResult r (λ _. x ≡ y) Q → P y → IfOk r (λ _. P x)
-where-ok P (Ok a) x y Q h p = subst P (sym h) p
-where-ok P (Err e) x y Q h p = tt
 
 pub returns-clause-seat : goal.returns-clause-seat
 returns-clause-seat c = where-ok (λ core. live_at core.views 0 ≡ Some record { truth = Some c.args.core.now.truth; seen = 7 ∷ []; floor = None; joined = false; steps = 3; last = Some (0, 0) }) c.run.result _ _ _ c.run.ensures.done

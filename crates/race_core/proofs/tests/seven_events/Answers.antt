@@ -1,4 +1,5 @@
 use Rattle.std.proofs.Common.{◌≡◌, ◌∷◌, [], IfOk, Result, Ok, Err, MatchResult, Some, false, List, sym, refl, subst}
+use Rattle.race_core.proofs.Outcomes.{where-ok}
 use Rattle.race_core.specs.declared.entry.Entry.TheVariants.{NoList, Best}
 use Rattle.race_core.specs.declared.event.Event.{Event}
 use Rattle.race_core.specs.declared.event.Event.TheVariants.{Load, Put, See, Offer, Split, Join}
@@ -7,10 +8,6 @@ use Rattle.race_core.proofs.tests.seven_events.Goals as goal
 
 abbrev events : List Event
 events = Load 0 1 ∷ Put 0 1 (Best 0) ∷ Offer 0 5 ∷ Split 0 ∷ See 1 ∷ Put 1 0 NoList ∷ Join 0 1 ∷ []
-
-where-ok : {A B C : Type 0} (P : C → Type 0) (r : Result A B) (x y : C) (Q : B → Type 0) → MatchResult r (λ _. x ≡ y) Q → P y → IfOk r (λ _. P x)
-where-ok P (Ok a) x y Q h p = subst P (sym h) p
-where-ok P (Err e) x y Q h p = tt
 
 pub returns-clause-words : goal.returns-clause-words
 returns-clause-words c = where-ok (λ core. core.words ≡ 6 ∷ 1 ∷ 2 ∷ 0 ∷ []) c.run.result _ _ _ c.run.ensures.done

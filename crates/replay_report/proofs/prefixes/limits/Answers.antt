@@ -2,9 +2,8 @@ use Rattle.std.proofs.Common.{◌≡◌, ◌<◌, ◌≤◌, ◌+◌, ◌∷◌,
 use Rattle.seat_tables.proofs.Stills.{still-trans}
 use Rattle.step_rules.specs.Legality.{start_of}
 use Rattle.step_rules.specs.Run.{run_of}
-use Rattle.step_rules.proofs.Runs.{run_of-take}
+use Rattle.step_rules.proofs.Runs.{run_of-take, next_legal}
 use Rattle.replay_report.proofs.Along.{AreNumbers, IsNumber, are_limits, limited_on_way, numbers_more}
-use Rattle.replay_report.proofs.Turns.{next_legal}
 use Rattle.replay_report.proofs.prefixes.limits.Goals as goal
 
 pub step-state-requires-clause-legal : goal.step-state-requires-clause-legal

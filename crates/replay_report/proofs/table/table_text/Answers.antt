@@ -1,9 +1,11 @@
-use Rattle.std.proofs.Common.{◌≡◌, ◌<◌, ◌+◌, arith, length, string_bytes, take, Some}
+use Rattle.std.proofs.Common.{◌≡◌, ◌<◌, ◌+◌, ◌≤◌, arith, length, string_bytes, take, subst, List, Some}
+use Rattle.std.proofs.lemmas.List.{take_all}
+use Rattle.action_table.specs.declared.action.Action.{Action}
 use Rattle.step_rules.specs.Legality.{start_of}
 use Rattle.step_rules.specs.Run.{run_of}
-use Rattle.step_rules.proofs.Runs.{run_of-take}
+use Rattle.step_rules.proofs.Runs.{run_of-take, next_legal}
 use Rattle.replay_report.specs.Report.{table_of}
-use Rattle.replay_report.proofs.Turns.{next_legal, table_more}
+use Rattle.replay_report.proofs.Turns.{table_more}
 use Rattle.replay_report.proofs.table.table_text.Goals as goal
 
 pub step-state-requires-clause-legal : goal.step-state-requires-clause-legal
@@ -23,3 +25,10 @@ loop-place-preserved c =
       ran = ran;
       whole = table_more g c.args.style.now c.args.limits.now c.step-state.result actions place _ c.shown-limit.result (string_bytes c.loop-place.text) (string_bytes c.push_row.new.text) (table_of g c.args.style.now c.args.limits.now actions) inside ran c.shown-limit.ensures c.loop-place.invariant.whole c.in_ok-push_row.ensures;
     }
+
+pub returns-clause-last : goal.returns-clause-last
+returns-clause-last c =
+    let g = c.args.g.now in
+    let actions = c.args.actions.now in
+    let all : length actions ≤ c.loop-place.place = grind arith in
+    subst (λ (ms : List Action). run_of g (start_of g) ms ≡ Some c.loop-place.state) (take_all c.loop-place.place actions all) c.loop-place.invariant.ran

@@ -1,32 +1,23 @@
-use Rattle.std.proofs.Common.{subst}
-use Rattle.solve_words.specs.declared.words.Words.{Words}
-use Rattle.solve_engine.specs.Told.{AnswersSample}
-use Rattle.solve_engine.proofs.Ending.{same_words, is_solve, is_sample}
+use Rattle.solve_engine.proofs.Ending.{answer_complete, answer_part, answer_solve, halt_complete, halt_refused}
 use Rattle.solve_engine.proofs.top.run.Goals as goal
 
-pub returns-in-Ok-clause-solved : goal.returns-in-Ok-clause-solved
-returns-in-Ok-clause-solved g c is = (c.in-Ok.given, c.in-Ok.ensures.ok, c.carry_out.ensures.solved is)
-
-pub returns-in-Ok-clause-no_macro : goal.returns-in-Ok-clause-no_macro
-returns-in-Ok-clause-no_macro g c is = (c.in-Ok.given, c.in-Ok.ensures.ok, c.carry_out.ensures.no_macro is)
-
-pub returns-in-Ok-clause-headline : goal.returns-in-Ok-clause-headline
-returns-in-Ok-clause-headline g c asked has =
-    let same = same_words c.args.words.now c.in-Ok.given asked.given c.in-Ok.ensures.ok asked.form in
-    rw same at (c.carry_out.ensures.headline (is_solve c.args.words.now c.in-Ok.given asked c.in-Ok.ensures.ok) has)
+pub returns-in-Ok-clause-solve : goal.returns-in-Ok-clause-solve
+returns-in-Ok-clause-solve g c =
+    λ asked result. answer_solve c.args.words.now c.in-Ok.answer c.write_answer.result _ _ c.in-Ok.ensures.done c.write_answer.ensures.status asked _ _ result (c.write_answer.ensures.whole result)
 
 pub returns-in-Ok-clause-complete : goal.returns-in-Ok-clause-complete
-returns-in-Ok-clause-complete g c asked = c.carry_out.ensures.complete (is_solve c.args.words.now c.in-Ok.given asked c.in-Ok.ensures.ok)
-
-pub returns-in-Ok-clause-refuses : goal.returns-in-Ok-clause-refuses
-returns-in-Ok-clause-refuses g c asked = c.carry_out.ensures.refuses (is_solve c.args.words.now c.in-Ok.given asked c.in-Ok.ensures.ok)
-
-pub returns-in-Ok-clause-sampled : goal.returns-in-Ok-clause-sampled
-returns-in-Ok-clause-sampled g c asked has =
-    subst (λ (w : Words). AnswersSample asked.number w.grain _ _ _) (same_words c.args.words.now c.in-Ok.given asked.given c.in-Ok.ensures.ok asked.form) (c.carry_out.ensures.sampled asked.number (is_sample c.args.words.now c.in-Ok.given asked c.in-Ok.ensures.ok) has)
-
-pub returns-in-Ok-clause-sample_complete : goal.returns-in-Ok-clause-sample_complete
-returns-in-Ok-clause-sample_complete g c asked = c.carry_out.ensures.sample_complete asked.number (is_sample c.args.words.now c.in-Ok.given asked c.in-Ok.ensures.ok)
+returns-in-Ok-clause-complete g c =
+    λ _ _ _ quiet. answer_complete c.args.words.now c.in-Ok.answer c.write_answer.result _ _ c.in-Ok.ensures.done c.write_answer.ensures.status
+    (g.O.Sink.view c.args.out.now) (g.O.Sink.view c.write_answer.new.out) c.write_answer.ensures.faults quiet
 
 pub returns-in-Ok-clause-part : goal.returns-in-Ok-clause-part
-returns-in-Ok-clause-part g c is = (c.in-Ok.given, c.in-Ok.ensures.ok, c.carry_out.ensures.part is)
+returns-in-Ok-clause-part g c =
+    λ fault. answer_part c.args.words.now c.in-Ok.answer c.write_answer.result _ _ c.in-Ok.ensures.done c.write_answer.ensures.status _ _ (c.write_answer.ensures.part fault)
+
+pub returns-in-Err-clause-complete : goal.returns-in-Err-clause-complete
+returns-in-Err-clause-complete g c =
+    λ given form quiet _. halt_complete c.args.words.now c.in-Err.halt c.tell.result _ _ c.in-Err.ensures.done c.tell.ensures.status given form quiet
+
+pub returns-in-Err-clause-refused : goal.returns-in-Err-clause-refused
+returns-in-Err-clause-refused g c =
+    λ refusal. halt_refused c.args.words.now c.in-Err.halt c.tell.result _ _ c.in-Err.ensures.done c.tell.ensures.status _ _ c.tell.ensures.told refusal

@@ -20,9 +20,9 @@ decreases-fill g l = l.column.now.budget / (g.T.Bound.rules l.shared.now.truth).
 abbrev pub decreases-lowered : goal.decreases-lowered
 decreases-lowered g l = l.column.now.budget / (g.T.Bound.rules l.shared.now.truth).least * 5 + 4
 
-abbrev pub invariant-fill_by-loop-number : goal.invariant-fill_by-loop-number
-invariant-fill_by-loop-number g l = record {
+abbrev pub invariant-fill_by-loop-action : goal.invariant-fill_by-loop-action
+invariant-fill_by-loop-action g l = record {
   of : IsOf l.shared l.seat;
   still : StillSees l.fn.seat.view l.seat.view;
-  leads : Leads (g.T.Bound.rules l.shared.truth) l.column.budget l.column.x l.number l.row;
+  leads : Leads (g.T.Bound.rules l.shared.truth) l.column.budget l.column.x l.action-index l.row;
 }

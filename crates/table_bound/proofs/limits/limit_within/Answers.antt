@@ -1,6 +1,7 @@
 use Rattle.std.proofs.Common.{arith, ◌+◌, ◌<◌, ◌^◌, sym, subst}
+use Rattle.relaxed_moves.proofs.Order.{AreRelaxed-relax}
 use Rattle.relaxed_moves.specs.Moves.{AreRelaxed}
-use Rattle.table_bound.proofs.Fits.{AreRelaxed-relax, gain_fits}
+use Rattle.table_bound.proofs.Fits.{gain_fits}
 use Rattle.table_bound.proofs.limits.limit_within.Goals as goal
 
 pub overflow_add-s-inside : goal.overflow_add-s-inside

@@ -1,8 +1,9 @@
 use Rattle.std.proofs.Common.{rules, arith, sym, ap, ◌∙◌, subst}
+use Rattle.race_core.proofs.Kept.{mark-below}
 use Rattle.race_core.specs.Codes.{quality}
 use Rattle.race_core.specs.Events.{looked}
 use Rattle.seat_tables.specs.Seats.{AtLeast}
-use Rattle.seat_tables.proofs.Keeps.{may-look, key-is, mark-fits, mark-above, empty-mark, mark-is, mark-reached, floor-looked}
+use Rattle.seat_tables.proofs.Keeps.{may-look, key-is, mark-above, empty-mark, mark-is, mark-reached, floor-looked}
 use Rattle.seat_tables.proofs.Stills.{still-same}
 use Rattle.seat_tables.proofs.shared.Shared.see.Goals as goal
 
@@ -10,7 +11,7 @@ pub load-mark-requires : goal.load-mark-requires
 load-mark-requires g c = (search rules, omega (arith, c.self.invariant.1), may-look g.T.Truth.size g.T.Truth.entry g.T.Truth.reached c.self.inside.table.shared.key _ _ _ (key-is c.self.inside.table.shared.key c.self.inside.truth c.args.self.now.truth c.seat.inside.token.me.0.truth c.args.seat.now.view.truth c.self.invariant.0 (ap (λ b. b.truth) c.self.view_is) (ap (λ s. s.view.truth) c.seat.view_is) c.requires.1) (ap (λ s. s.view.joined) c.seat.view_is ∙ c.requires.2))
 
 pub quality_of_mark-requires : goal.quality_of_mark-requires
-quality_of_mark-requires g c = let is = ap (λ s. s.view.truth) c.seat.view_is ∙ c.requires.1 in mark-fits _ _ ((g.met.T.Truth g.world.𝓛 g.world.𝓜 g.world.𝓡 ((λ s x. x), (λ x. x), (λ x. x), λ x. x)).reached_fits c.args.self.now.truth) (c.load-mark.ensures.2.1.1 _ is).0
+quality_of_mark-requires g c = let is = ap (λ s. s.view.truth) c.seat.view_is ∙ c.requires.1 in mark-below _ _ ((g.met.T.Truth g.world.𝓛 g.world.𝓜 g.world.𝓡 ((λ s x. x), (λ x. x), (λ x. x), λ x. x)).reached_fits c.args.self.now.truth) (c.load-mark.ensures.2.1.1 _ is).0
 
 pub returns-clause-of : goal.returns-clause-of
 returns-clause-of g c = (

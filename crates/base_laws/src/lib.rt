@@ -1,0 +1,31 @@
+//! What the numbers and lists of the low crates are. A function's contract is the law; its body does nothing.
+#![tactic(auto)]
+
+ghost use Rattle.std.specs.Prelude.{◌≡◌, ◌+◌, ◌++◌, true, false, map, take, drop};
+ghost use Rattle.std.specs.List.{range_with_len};
+ghost use Rattle.action_table.specs.Table.{all_actions, number_of};
+ghost use Rattle.craft_settings.specs.Keys.{places, row_of, rows, trained_eye_key};
+ghost use Rattle.relaxed_moves.specs.declared.places.TheConstants.{BUCKET_STATES, MOST_BUDGET, MOST_MOVES};
+ghost use Rattle.step_rules.specs.declared.legality.TheConstants.{MOST_STEPS};
+
+/// There are 26 actions, and their list is in the action order.
+pub fn order_law()
+    ensures { map number_of all_actions ≡ range_with_len 0 26 }
+{}
+
+/// No macro has more than 272 steps; the tables of bounds have budgets up to 1378 and up to 63 moves, and 1100 relaxed
+/// states in a bucket.
+pub fn numbers_law()
+    ensures steps { MOST_STEPS ≡ 272 }
+    ensures budget { MOST_BUDGET ≡ 1378 }
+    ensures moves { MOST_MOVES ≡ 63 }
+    ensures states { BUCKET_STATES ≡ 1100 }
+{}
+
+/// The second version of the settings has the whole list of keys, and the first the same list without
+/// `recipe.trained_eye`.
+#[tactic(auto, unfolding(craft_settings::specs::Keys::rows, craft_settings::specs::Keys::row_of, craft_settings::specs::Keys::places, craft_settings::specs::Keys::section_name))]
+pub fn versions_law()
+    ensures second { map row_of (places true) ≡ rows }
+    ensures first { map row_of (places false) ≡ take trained_eye_key rows ++ drop (trained_eye_key + 1) rows }
+{}

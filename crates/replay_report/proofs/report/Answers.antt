@@ -1,0 +1,10 @@
+use Rattle.std.proofs.Common.{subst}
+use Rattle.craft_settings.specs.Ranges.{AreSettings}
+use Rattle.replay_report.proofs.Complete.{at_most}
+use Rattle.replay_report.proofs.report.Goals as goal
+
+pub table_text-requires-clause-short : goal.table_text-requires-clause-short
+table_text-requires-clause-short c = at_most c.args.g.now c.args.actions.now (subst AreSettings c.g.view_is c.g.invariant) c.requires.complete
+
+pub head-requires : goal.head-requires
+head-requires c = at_most c.args.g.now c.args.actions.now (subst AreSettings c.g.view_is c.g.invariant) c.requires.complete

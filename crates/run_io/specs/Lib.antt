@@ -1,0 +1,5 @@
+pub mod Answering
+pub mod FaultLine
+pub mod Halts
+pub mod Reading
+pub mod Statuses
