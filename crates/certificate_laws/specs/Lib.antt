@@ -1,0 +1,4 @@
+pub mod Certificate
+pub mod Claims
+pub mod Example
+pub mod Lines

@@ -1,0 +1,5 @@
+use Rattle.certificate_text.proofs.WordByWord.{placed, some-bytes}
+use Rattle.certificate_text.proofs.words.read_word.Goals as goal
+
+pub returns-in-Some : goal.returns-in-Some
+returns-in-Some c = placed c.args.word.now c.in-Some.place (some-bytes _ c.if-is_empty.ensures) c.if-word-eq100.true c.in-Some.ensures.digits c.in-Some.ensures.value

@@ -1,0 +1,12 @@
+pub mod ActionWords
+pub mod Answering
+pub mod Asking
+pub mod Counting
+pub mod FromLevel
+pub mod Leading
+pub mod LevelByLevel
+pub mod NoBetter
+pub mod OpeningLines
+pub mod RowByRow
+pub mod RowJudged
+pub mod Verifying

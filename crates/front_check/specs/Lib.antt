@@ -1,0 +1,5 @@
+pub mod Judging
+pub mod Levels
+pub mod Named
+pub mod Seated
+pub mod Verified
