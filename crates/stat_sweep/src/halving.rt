@@ -1,0 +1,109 @@
+// The search for the least base quality that is enough.
+ghost use Rattle.std.specs.Prelude.{◌≡◌, ◌≤◌, ◌<◌, ◌+◌, IfOk, MatchOption};
+ghost use Rattle.macro_order.specs.Order.{IsBest, NothingCompletes, score_of};
+ghost use Rattle.stat_sweep.specs.Bases.{with_base, IsEnough};
+ghost use Rattle.stat_sweep.specs.Sweeping.{IsSwept};
+ghost use Rattle.stat_sweep.specs.Halving.{IsTried, is_full};
+
+use crate::plan::Plan;
+use crate::solver::Solver;
+use crate::swept::Swept;
+use crate::{MOST_BASE, MOST_CALLS};
+use action_table::{Action, WantMemory};
+use craft_settings::Settings;
+use macro_order::score;
+use std::alloc::Global;
+
+// The best macro at a base quality, and whether its quality is all that counts.
+#[derive(Drop)]
+pub(crate) struct Tried {
+    pub plan: Plan,
+    pub is_enough: bool,
+}
+
+// Base qualities between which the least one lies that is enough: `low` isn't, or is 0, and `high` is. Each comes
+// with its best macro, but for 0.
+#[derive(Drop)]
+struct Range {
+    low: u32,
+    below: Option<Plan>,
+    high: u32,
+    at: Plan,
+}
+
+// Asks for the best macro at a base quality.
+pub(crate) fn best_at<V: Solver>(
+    alloc: Global,
+    g: &Settings,
+    base: u32,
+    solver: &mut V,
+) -> Result<Option<Tried>, WantMemory>
+    requires low { 1 ≤ base }
+    requires high { base ≤ MOST_BASE }
+    requires calls { V.calls solver.old < MOST_CALLS }
+    ensures best { IfOk result (λ found. MatchOption found (NothingCompletes g.now) (IsTried g.now base)) }
+    ensures calls { V.calls solver.new ≡ V.calls solver.old + 1 }
+{
+    let crafter = Settings {
+        base_quality: base,
+        ..*g
+    };
+    let Some(actions) = solver.solve(alloc, &crafter)? else {
+        return Ok(None);
+    };
+    let is_enough = is_full(&crafter, &actions);
+    Ok(Some(Tried {
+        plan: Plan { actions },
+        is_enough,
+    }))
+}
+
+// Whether a macro completes the craft with all the quality that counts.
+fn is_full(g: &Settings, actions: &[Action]) -> bool
+    ensures { result ≡ is_full g.now (score_of g.now actions.now) }
+{
+    match score(g, actions) {
+        Some(score) => score.quality == g.cap(),
+        None => false,
+    }
+}
+
+// Halves the range of base qualities until the least one that is enough is left. The macro is the best at the
+// greatest base quality, which is enough.
+pub(crate) fn halve<V: Solver>(
+    alloc: Global,
+    g: &Settings,
+    most: Plan,
+    solver: &mut V,
+) -> Result<Swept, WantMemory>
+    requires best { IsBest (with_base g.now MOST_BASE) most }
+    requires enough { IsEnough g.now MOST_BASE }
+    requires calls { V.calls solver.old ≡ 1 }
+    ensures swept { IfOk result (IsSwept g.now) }
+    ensures calls { V.calls solver.new ≤ MOST_CALLS }
+{
+    let mut range = Range {
+        low: 0,
+        below: None,
+        high: MOST_BASE,
+        at: most,
+    };
+    while range.high - range.low > 1 {
+        let middle = range.low + (range.high - range.low) / 2;
+        let Some(tried) = best_at(alloc, g, middle, solver)? else {
+            unreachable!()
+        };
+        if tried.is_enough {
+            range.high = middle;
+            range.at = tried.plan;
+        } else {
+            range.low = middle;
+            range.below = Some(tried.plan);
+        }
+    }
+    Ok(Swept::Least {
+        base: range.high,
+        at: range.at,
+        below: range.below,
+    })
+}
