@@ -1,0 +1,4 @@
+pub mod Built
+pub mod Closed
+pub mod Digits
+pub mod Tied
