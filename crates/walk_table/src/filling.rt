@@ -144,8 +144,8 @@ fn complete(
 }
 
 // The pieces of the budgets that aren't filled yet and are below `end`, by so many workers side by side.
-fn make_block<R: Threads + Sync>(
-    rt: &R,
+fn make_block(
+    rt: &(impl Threads + Sync),
     alloc: Global,
     filled: &Filled,
     end: usize,
@@ -172,8 +172,8 @@ fn make_block<R: Threads + Sync>(
 }
 
 // Fills all budgets up to `top`.
-pub(crate) fn fill_all<R: Threads + Sync>(
-    rt: &R,
+pub(crate) fn fill_all(
+    rt: &(impl Threads + Sync),
     alloc: Global,
     filled: &mut Filled,
     top: usize,

@@ -45,8 +45,8 @@ impl WalkTable {
     /// The table of a graph, filled by so many workers side by side; with none the caller fills it alone. It takes two
     /// bytes for each budget, node and need. The number of workers changes nothing that the table answers. Errors:
     /// only where memory runs out.
-    pub fn new<R: Threads + Sync>(
-        rt: &R,
+    pub fn new(
+        rt: &(impl Threads + Sync),
         alloc: Global,
         graph: Graph,
         limits: Limits,
