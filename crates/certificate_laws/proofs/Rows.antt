@@ -4,7 +4,7 @@ use Rattle.action_table.specs.declared.action.Action.{Action}
 use Rattle.action_table.specs.Table.{all_actions}
 use Rattle.craft_state.specs.Craft.{StateFields}
 use Rattle.craft_settings.specs.Ranges.{SettingsFields}
-use Rattle.step_rules.specs.Legality.{is_legal, is_over}
+use Rattle.step_rules.specs.Legality.{start_of, is_legal, is_over}
 use Rattle.prefix_fronts.specs.Prefix.{Prefix, extend}
 use Rattle.plain_lemmas.proofs.Lists.{Among, Among-append_left, Among-append_right, Among-append_cases, Among-filter, filter-Among}
 use Rattle.prefix_fronts.proofs.Members.{Among-all_actions, IsPrefixAt, prefix-next}
@@ -94,14 +94,14 @@ kept-by claim next p c (a ∷ actions) (v ∷ row) legal h here = elim (kept-cas
 ]
 
 -- and so a prefix of one action more
-pub next-prefixes : (claim : Claim) (k : ℕ) (next kept : List Prefix) (rows : List (List Verdict)) → ((p : Prefix) → Among p kept → IsPrefixAt claim.g k p) → RowsHold claim next kept rows →
-    (c : Prefix) → Among c (next_kept claim.g kept rows) → IsPrefixAt claim.g (suc k) c
+pub next-prefixes : (claim : Claim) (k : ℕ) (next kept : List Prefix) (rows : List (List Verdict)) → ((p : Prefix) → Among p kept → IsPrefixAt claim.g (start_of claim.g) k p) → RowsHold claim next kept rows →
+    (c : Prefix) → Among c (next_kept claim.g kept rows) → IsPrefixAt claim.g (start_of claim.g) (suc k) c
 next-prefixes claim k next [] rows facts h c here = absurd here
 next-prefixes claim k next (p ∷ kept) [] facts h c here = absurd h
 next-prefixes claim k next (p ∷ kept) (row ∷ rows) facts h c here = elim (Among-append_cases c (kept_of claim.g p (legal_after claim.g p) row) (next_kept claim.g kept rows) here) [
   | inl first ↦
       let by = kept-by claim next p c (legal_after claim.g p) row (λ a among. among-legal claim.g p.state a among) h.0 first in
-      subst (λ (q : Prefix). IsPrefixAt claim.g (suc k) q) by.is (prefix-next claim.g k p by.action (facts p (inl refl)) (goes_on-by claim.g p.state by.action by.legal by.live))
+      subst (λ (q : Prefix). IsPrefixAt claim.g (start_of claim.g) (suc k) q) by.is (prefix-next claim.g (start_of claim.g) k p by.action (facts p (inl refl)) (goes_on-by claim.g p.state by.action by.legal by.live))
   | inr later ↦ next-prefixes claim k next kept rows (λ q among. facts q (inr among)) h.1 c later
 ]
 

@@ -16,7 +16,7 @@ use Rattle.macro_order.specs.Order.{seconds_of, scored, score_of, is_better, IsB
 use Rattle.relaxed_moves.specs.Optimum.{option_le, limit_of}
 use Rattle.prefix_fronts.specs.Prefix.{Prefix, empty_prefix, extend, prefixes}
 use Rattle.plain_lemmas.proofs.Lists.{Among}
-use Rattle.prefix_fronts.proofs.Members.{IsPrefixAt, prefix-facts, prefix-next, seconds_of-snoc}
+use Rattle.prefix_fronts.proofs.Members.{IsPrefixAt, prefix-facts, start-open, prefix-next, seconds_of-snoc}
 use Rattle.prefix_fronts.proofs.Dominance.{goes_on-by}
 use Rattle.prefix_fronts.proofs.Best.{score-says}
 use Rattle.plain_lemmas.proofs.Tests.{clash, some_same}
@@ -36,7 +36,7 @@ le_or a b = grind arith
 -- a macro that goes through a legal child of a kept prefix
 record Through (claim : Claim) (k : ℕ) (p : Prefix) (a : Action) (r : List Action) (last : StateFields) : Type 0 where
   pub low : 1 ≤ claim.grain
-  pub prefix : IsPrefixAt claim.g k p
+  pub prefix : IsPrefixAt claim.g (start_of claim.g) k p
   pub legal : is_legal claim.g p.state a ≡ true
   pub ran : run_of claim.g (step_of claim.g p.state a) r ≡ Some last
   pub full : is_complete claim.g last ≡ true
@@ -120,8 +120,8 @@ late claim k next p a r last t h =
     ]
 
 child : (claim : Claim) (k : ℕ) (p : Prefix) (a : Action) (r : List Action) (last : StateFields) → Through claim k p a r last → is_over claim.g (step_of claim.g p.state a) ≡ false →
-    IsPrefixAt claim.g (suc k) (extend claim.g p a)
-child claim k p a r last t live = prefix-next claim.g k p a t.prefix (goes_on-by claim.g p.state a t.legal live)
+    IsPrefixAt claim.g (start_of claim.g) (suc k) (extend claim.g p a)
+child claim k p a r last t live = prefix-next claim.g (start_of claim.g) k p a t.prefix (goes_on-by claim.g p.state a t.legal live)
 
 -- the score of the macro that the claim is about
 score-same : (claim : Claim) (m : List Action) (last : StateFields) → score_of claim.g claim.actions ≡ Some claim.score → run_of claim.g (start_of claim.g) m ≡ Some last → is_complete claim.g last ≡ true →
@@ -131,13 +131,13 @@ score-same claim m last says runs full same =
     some_same _ _ (sym says ∙ ap (score_of claim.g) same ∙ other)
 
 outdone : (claim : Claim) (k : ℕ) (next : List Prefix) (p : Prefix) (a : Action) (r : List Action) (last : StateFields) (place : ℕ) → Through claim k p a r last → score_of claim.g claim.actions ≡ Some claim.score →
-    ((q : Prefix) → Among q next → IsPrefixAt claim.g (suc k) q) → Beats claim next r →
+    ((q : Prefix) → Among q next → IsPrefixAt claim.g (start_of claim.g) (suc k) q) → Beats claim next r →
     Holds claim next (extend claim.g p a) (Dominated place) → Goal claim p a r last
 outdone claim k next p a r last place t says facts beats h =
     let q = h.1.0 in
     let here : Among q next = slice_get-Among next place q h.1.1 in
     let fq = facts q here in
-    let other = replaced-better claim.g (suc k) (extend claim.g p a) q r last (child claim k p a r last t h.0) fq h.1.2 t.ran t.full in
+    let other = replaced-better claim.g (start_of claim.g) (suc k) (extend claim.g p a) q r last (child claim k p a r last t h.0) fq h.1.2 t.ran t.full in
     let ran_whole : run_of claim.g (start_of claim.g) (q.actions ++ r) ≡ Some other.end = run_of-append claim.g (start_of claim.g) q.state q.actions r fq.ran ∙ other.ran in
     let wins = beats q here other.end other.ran other.full in
     let group : (extend claim.g p a).actions ++ r ≡ p.actions ++ a ∷ r = regroup p claim.g a r in
@@ -152,7 +152,7 @@ kept-on claim k next p a r last t beats here =
     subst (λ (n : List Action). Wins claim n (ends_with claim.g n last)) (regroup p claim.g a r) wins
 
 by-verdict : (claim : Claim) (k : ℕ) (next : List Prefix) (p : Prefix) (a : Action) (r : List Action) (last : StateFields) (v : Verdict) → Through claim k p a r last → score_of claim.g claim.actions ≡ Some claim.score →
-    ((q : Prefix) → Among q next → IsPrefixAt claim.g (suc k) q) → Beats claim next r →
+    ((q : Prefix) → Among q next → IsPrefixAt claim.g (start_of claim.g) (suc k) q) → Beats claim next r →
     Holds claim next (extend claim.g p a) v → (is_kept v ≡ true → Among (extend claim.g p a) next) → Goal claim p a r last
 by-verdict claim k next p a r last Complete t says facts beats h listed = completed claim k next p a r last t h
 by-verdict claim k next p a r last Failed t says facts beats h listed = absurd (failed claim k next p a r last t h)
@@ -163,7 +163,7 @@ by-verdict claim k next p a r last Kept t says facts beats h listed = kept-on cl
 
 -- the claimed macro is each macro through a kept prefix of a level, or better
 pub level-wins : (claim : Claim) (k : ℕ) (kept : List Prefix) (levels : List (List (List Verdict))) → 1 ≤ claim.grain → score_of claim.g claim.actions ≡ Some claim.score →
-    ((p : Prefix) → Among p kept → IsPrefixAt claim.g k p) → LevelsHold claim kept levels → (r : List Action) → Beats claim kept r
+    ((p : Prefix) → Among p kept → IsPrefixAt claim.g (start_of claim.g) k p) → LevelsHold claim kept levels → (r : List Action) → Beats claim kept r
 level-wins claim k kept [] low says facts hold r p here last runs full = absurd (subst (λ (ps : List Prefix). Among p ps) hold here)
 level-wins claim k kept (rows ∷ levels) low says facts hold [] p here last runs full =
     let left : 1 ≤ 0 = some-left claim.g p.state last [] (facts p here).live runs full in
@@ -171,14 +171,14 @@ level-wins claim k kept (rows ∷ levels) low says facts hold [] p here last run
 level-wins claim k kept (rows ∷ levels) low says facts hold (a ∷ r) p here last runs full =
     let parts = ran (is_legal claim.g p.state a) (run_of claim.g (step_of claim.g p.state a) r) last runs in
     let next = next_kept claim.g kept rows in
-    let more : (q : Prefix) → Among q next → IsPrefixAt claim.g (suc k) q = next-prefixes claim k next kept rows facts hold.1 in
+    let more : (q : Prefix) → Among q next → IsPrefixAt claim.g (start_of claim.g) (suc k) q = next-prefixes claim k next kept rows facts hold.1 in
     let found = verdict-at claim kept rows p a hold.1 here parts.0 in
     let t : Through claim k p a r last = record { low = low; prefix = facts p here; legal = parts.0; ran = parts.1; full = full } in
     by-verdict claim k next p a r last found.verdict t says more (level-wins claim (suc k) next levels low says more hold.2 r) found.holds found.listed
 
-start-facts : (g : SettingsFields) → AreSettings g → (p : Prefix) → Among p (empty_prefix g ∷ []) → IsPrefixAt g 0 p
+start-facts : (g : SettingsFields) → AreSettings g → (p : Prefix) → Among p (empty_prefix g ∷ []) → IsPrefixAt g (start_of g) 0 p
 unfolding prefixes
-start-facts g settings p here = prefix-facts g settings 0 p here
+start-facts g settings p here = prefix-facts g (start_of g) (start-open g settings) 0 p here
 
 score-is : (s : Score) (q n t : ℕ) → s.quality ≡ q → s.steps ≡ n → s.seconds ≡ t → record { quality = q; steps = n; seconds = t } ≡ s
 score-is s q n t a b c = λ i. record { quality = sym a i; steps = sym b i; seconds = sym c i }

@@ -11,12 +11,12 @@ use Rattle.action_table.specs.declared.action.Action.{Action}
 use Rattle.action_table.specs.Table.{all_actions}
 use Rattle.craft_state.specs.Craft.{StateFields}
 use Rattle.craft_settings.specs.Ranges.{SettingsFields, AreSettings}
-use Rattle.step_rules.specs.Legality.{IsWithin}
+use Rattle.step_rules.specs.Legality.{start_of, IsWithin}
 use Rattle.macro_order.specs.Order.{precedes}
-use Rattle.prefix_fronts.specs.Prefix.{Prefix, empty_prefix, front, is_sooner, AreLimits}
+use Rattle.prefix_fronts.specs.Prefix.{Prefix, empty_prefix, front, is_sooner}
 use Rattle.plain_lemmas.proofs.Lists.{Among, filter-Among, flat_map-Among, map-Among, Among-map}
 use Rattle.macro_order.proofs.Transitive.{step_trans, precedes-transitive}
-use Rattle.prefix_fronts.proofs.Members.{prefix-facts}
+use Rattle.prefix_fronts.proofs.Members.{start-open, prefix-facts}
 use Rattle.prefix_fronts.proofs.Sorted.{Ordered}
 use Rattle.prefix_fronts.proofs.Fronts.{front-among}
 use Rattle.pareto_front.specs.declared.node.Node.{Node}
@@ -25,6 +25,7 @@ use Rattle.relaxed_moves.specs.Budget.{potential_of, start_potential_of}
 use Rattle.admissible.proofs.Reached.{potential-reached}
 use Rattle.level_search.specs.declared.links.Link.{Link}
 use Rattle.level_search.specs.Nodes.{IsNode, child_by, children_by, nodes_by, goes_and_passes, nodes_at, link_of, actions_to, Climbs, sooner_of, soonest_from, soonest_of}
+use Rattle.level_search.proofs.Reached.{LetsStart}
 use Rattle.level_search.proofs.Tied.{tied, Looks, placed-above, stands-for, nodes-next, front-zero}
 
 -- nodes are children of nodes
@@ -71,8 +72,8 @@ pub record LeadsTo (levels : List (List Link)) (k : ℕ) (m : Node) (actions : L
 
 pub leads-step : (g : SettingsFields) (passes : ℕ → StateFields → Bool) (n : ℕ) (levels : List (List Link)) (k : ℕ) (m : Node) →
     get_or levels k [] ≡ map link_of (nodes_at g passes n k) → m.parent < length (nodes_at g passes n k) →
-    LeadsTo levels k (get_or (nodes_at g passes n k) m.parent m) (get_or (front g passes n k) m.parent (empty_prefix g)).actions →
-    LeadsTo levels (suc k) m (tied g (front g passes n k) m).actions
+    LeadsTo levels k (get_or (nodes_at g passes n k) m.parent m) (get_or (front g (start_of g) passes n k) m.parent (empty_prefix g)).actions →
+    LeadsTo levels (suc k) m (tied g (front g (start_of g) passes n k) m).actions
 unfolding Climbs actions_to
 leads-step g passes n levels k m at inside before =
     let ns : List Node = nodes_at g passes n k in
@@ -83,24 +84,24 @@ leads-step g passes n levels k m at inside before =
       actions_is = rw at (ap (λ (l : Link). actions_to levels k l ++ m.action ∷ []) parent ∙ ap (λ l. l ++ m.action ∷ []) before.actions_is);
     }
 
-leads-zero : (g : SettingsFields) (target : ℕ) (passes : ℕ → StateFields → Bool) (n : ℕ) (levels : List (List Link)) (i : ℕ) (d : Node) → AreLimits g target passes → AreSettings g → 0 < n → i < length (nodes_at g passes n 0) →
-    LeadsTo levels 0 (get_or (nodes_at g passes n 0) i d) (get_or (front g passes n 0) i (empty_prefix g)).actions
+leads-zero : (g : SettingsFields) (target : ℕ) (passes : ℕ → StateFields → Bool) (n : ℕ) (levels : List (List Link)) (i : ℕ) (d : Node) → LetsStart g target passes → AreSettings g → 0 < n → i < length (nodes_at g passes n 0) →
+    LeadsTo levels 0 (get_or (nodes_at g passes n 0) i d) (get_or (front g (start_of g) passes n 0) i (empty_prefix g)).actions
 unfolding Climbs actions_to nodes_at
 leads-zero g target passes n levels i d limits settings some inside =
     let first : i ≡ 0 = omega (arith, inside) in
-    let e : get_or (front g passes n 0) i (empty_prefix g) ≡ empty_prefix g = ap (λ (l : List Prefix). get_or l i (empty_prefix g)) (front-zero g target passes n limits) ∙ ap (λ j. get_or (empty_prefix g ∷ []) j (empty_prefix g)) first in
+    let e : get_or (front g (start_of g) passes n 0) i (empty_prefix g) ≡ empty_prefix g = ap (λ (l : List Prefix). get_or l i (empty_prefix g)) (front-zero g target passes n limits) ∙ ap (λ j. get_or (empty_prefix g ∷ []) j (empty_prefix g)) first in
     record { climbs = tt; actions_is = sym (ap (λ (p : Prefix). p.actions) e) }
 
-pub leads-to : (g : SettingsFields) (target : ℕ) (passes : ℕ → StateFields → Bool) (n : ℕ) (levels : List (List Link)) → AreSettings g → AreLimits g target passes →
+pub leads-to : (g : SettingsFields) (target : ℕ) (passes : ℕ → StateFields → Bool) (n : ℕ) (levels : List (List Link)) → AreSettings g → LetsStart g target passes →
     ((j : ℕ) → j < n → get_or levels j [] ≡ map link_of (nodes_at g passes n j)) → (k i : ℕ) (d : Node) → k < n → i < length (nodes_at g passes n k) →
-    LeadsTo levels k (get_or (nodes_at g passes n k) i d) (get_or (front g passes n k) i (empty_prefix g)).actions
+    LeadsTo levels k (get_or (nodes_at g passes n k) i d) (get_or (front g (start_of g) passes n k) i (empty_prefix g)).actions
 leads-to g target passes n levels settings limits at zero i d below inside = leads-zero g target passes n levels i d limits settings below inside
 leads-to g target passes n levels settings limits at (suc k) i d below inside =
     let m = get_or (nodes_at g passes n (suc k)) i d in
     let parent = nodes_at-parent g passes n k m (Among-get_or (nodes_at g passes n (suc k)) i d inside) in
     let looks = (stands-for g target passes n k settings limits (omega (arith, below))).looks in
-    let fronts : get_or (front g passes n (suc k)) i (empty_prefix g) ≡ tied g (front g passes n k) m =
-    ap (λ (l : List Prefix). get_or l i (empty_prefix g)) (sym (nodes-next g target passes n k settings limits below looks)) ∙ get_or-mapped (tied g (front g passes n k)) (nodes_at g passes n (suc k)) i d (empty_prefix g) inside in
+    let fronts : get_or (front g (start_of g) passes n (suc k)) i (empty_prefix g) ≡ tied g (front g (start_of g) passes n k) m =
+    ap (λ (l : List Prefix). get_or l i (empty_prefix g)) (sym (nodes-next g target passes n k settings limits below looks)) ∙ get_or-mapped (tied g (front g (start_of g) passes n k)) (nodes_at g passes n (suc k)) i d (empty_prefix g) inside in
     let before = leads-to g target passes n levels settings limits at k m.parent m (omega (arith, below)) parent in
     subst (λ (p : Prefix). LeadsTo levels (suc k) m p.actions) (sym fronts) (leads-step g passes n levels k m (at k (omega (arith, below))) parent before)
 
@@ -115,11 +116,11 @@ pub All-from_Among : {X : Type 0} (P : X → Type 0) (xs : List X) → ((x : X) 
 All-from_Among P [] each = All-nil P
 All-from_Among P (x ∷ xs) each = All-cons P x xs (each x (inl refl)) (All-from_Among P xs (λ y h. each y (inr h)))
 
-pub level-nodes : (g : SettingsFields) (target : ℕ) (passes : ℕ → StateFields → Bool) (n k : ℕ) → AreSettings g → AreLimits g target passes → k < n → n ≤ 272 → All (IsNode g) (nodes_at g passes n k)
+pub level-nodes : (g : SettingsFields) (target : ℕ) (passes : ℕ → StateFields → Bool) (n k : ℕ) → AreSettings g → LetsStart g target passes → k < n → n ≤ 272 → All (IsNode g) (nodes_at g passes n k)
 level-nodes g target passes n k settings limits below most =
     All-from_Among (IsNode g) (nodes_at g passes n k) (λ m h.
     let r = Looks-Among _ _ m (stands-for g target passes n k settings limits below).looks h in
-    let is = prefix-facts g settings k r.0 (front-among g passes n k r.0 r.1) in
+    let is = prefix-facts g (start_of g) (start-open g settings) k r.0 (front-among g (start_of g) passes n k r.0 r.1) in
     record {
       within = subst (λ s. IsWithin g s) (sym r.2) is.within;
       potential = subst (λ s. potential_of g s ≤ start_potential_of g) (sym r.2) (potential-reached g r.0.state r.0.actions settings is.ran);
@@ -132,7 +133,7 @@ Looks-length [] (p ∷ ps) l = absurd l
 Looks-length (n ∷ ns) [] l = absurd l
 Looks-length (n ∷ ns) (p ∷ ps) l = let r = Looks-length ns ps l.2 in omega (arith, r)
 
-pub level-length : (g : SettingsFields) (target : ℕ) (passes : ℕ → StateFields → Bool) (n k : ℕ) → AreSettings g → AreLimits g target passes → k < n → length (nodes_at g passes n k) ≡ length (front g passes n k)
+pub level-length : (g : SettingsFields) (target : ℕ) (passes : ℕ → StateFields → Bool) (n k : ℕ) → AreSettings g → LetsStart g target passes → k < n → length (nodes_at g passes n k) ≡ length (front g (start_of g) passes n k)
 level-length g target passes n k settings limits below = Looks-length _ _ (stands-for g target passes n k settings limits below).looks
 
 -- the first of the fewest seconds

@@ -3,9 +3,10 @@ use Rattle.std.proofs.Common.{◌≡◌, ◌∙◌, ℕ, ◌+◌, ◌-◌, ◌�
 use Rattle.std.proofs.lemmas.Bool.Decides.{nat_tests}
 use Rattle.craft_state.specs.Craft.{StateFields}
 use Rattle.craft_settings.specs.Ranges.{SettingsFields}
+use Rattle.step_rules.specs.Legality.{start_of}
 use Rattle.step_rules.specs.Step.{step_of}
 use Rattle.relaxed_moves.specs.Optimum.{option_le, limit_of, within_of}
-use Rattle.prefix_fronts.specs.Prefix.{AreLimits}
+use Rattle.prefix_fronts.specs.Prefix.{Test, AreLimits}
 use Rattle.admissible.proofs.Limits.{Later, limit-law, within-law, last-limit, last-within}
 use Rattle.admissible.proofs.Reached.{first-step, limit-not_less, within-not_less}
 use Rattle.level_search.specs.Reaching.{is_enough, reaches}
@@ -58,7 +59,6 @@ by-first P s to_come over = elim (s.effects.first) as (λ b. s.effects.first ≡
 
 pub are_limits : (g : SettingsFields) (grain target : ℕ) → 1 ≤ grain → AreLimits g target (reaches g grain target)
 are_limits g grain target low = record {
-  start = λ j. reaches-first g grain target j _ refl;
   step = λ j s action within live legal goes pass.
       by-first (reaches g grain target (j + 1) s ≡ true) s (reaches-first g grain target (j + 1) s) (λ later.
       let parts = reaches-parts g grain target j (step_of g s action) (first-step g s action) pass in
@@ -76,4 +76,15 @@ are_limits g grain target low = record {
       reaches-by g grain target (j + 1) s
       (enough-some target _ _ enough (last-within g grain s action (j + 1) record { step = record { within = within; legal = legal; done = done }; first = later; low = low } (omega arith)))
       (enough-some target _ _ enough (last-limit g grain s action record { step = record { within = within; legal = legal; done = done }; first = later; low = low })));
+}
+
+-- the test keeps what the fronts ask, and lets the start through
+pub record LetsStart (g : SettingsFields) (target : ℕ) (passes : Test) : Type 0 where
+  pub limits : AreLimits g target passes
+  pub start : (j : ℕ) → passes j (start_of g) ≡ true
+
+pub lets_start : (g : SettingsFields) (grain target : ℕ) → 1 ≤ grain → LetsStart g target (reaches g grain target)
+lets_start g grain target low = record {
+  limits = are_limits g grain target low;
+  start = λ j. reaches-first g grain target j _ refl;
 }

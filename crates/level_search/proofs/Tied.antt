@@ -13,15 +13,16 @@ use Rattle.step_rules.specs.Legality.{start_of}
 use Rattle.step_rules.specs.Step.{step_of}
 use Rattle.craft_state.specs.NotLess.{is_not_less}
 use Rattle.macro_order.specs.Order.{precedes}
-use Rattle.prefix_fronts.specs.Prefix.{Prefix, empty_prefix, extend, goes_on, children, prefixes, dominates, undominated, front, AreLimits}
+use Rattle.prefix_fronts.specs.Prefix.{Prefix, empty_prefix, extend, goes_on, children, prefixes, dominates, undominated, front}
 use Rattle.plain_lemmas.proofs.Lists.{Among, filter-same, Among-map}
 use Rattle.macro_order.proofs.Transitive.{precedes-transitive}
 use Rattle.prefix_fronts.proofs.Dominance.{precedes-irreflexive}
-use Rattle.prefix_fronts.proofs.Members.{prefix-facts}
+use Rattle.prefix_fronts.proofs.Members.{start-open, prefix-facts}
 use Rattle.prefix_fronts.proofs.Sorted.{Ordered, is_before, Ordered-filter, Ordered-next, Ordered-prefixes}
 use Rattle.prefix_fronts.proofs.Fronts.{front-next, front-among}
 use Rattle.pareto_front.specs.declared.node.Node.{Node}
 use Rattle.pareto_front.specs.Covers.{covers, is_covered, uncovered}
+use Rattle.level_search.proofs.Reached.{LetsStart}
 use Rattle.level_search.specs.Nodes.{root_node, child_node, child_by, children_by, nodes_by, goes_and_passes, nodes_at}
 
 -- the prefix that a node stands for, over those of the level before
@@ -197,7 +198,7 @@ uncovered-tied g ps ns ordered =
     ap (λ l. map f (map (λ (p : ℕ × Node). p.1) l)) (filter-same (λ (p : ℕ × Node). not (is_covered ns p.0 p.1)) (λ (p : ℕ × Node). u (f p.1)) e same)
     ∙ ap (map f) (filter-enumerate (λ x. u (f x)) 0 ns) ∙ map-filter f u ns
 
-pub front-zero : (g : SettingsFields) (target : ℕ) (passes : ℕ → StateFields → Bool) (n : ℕ) → AreLimits g target passes → front g passes n 0 ≡ empty_prefix g ∷ []
+pub front-zero : (g : SettingsFields) (target : ℕ) (passes : ℕ → StateFields → Bool) (n : ℕ) → LetsStart g target passes → front g (start_of g) passes n 0 ≡ empty_prefix g ∷ []
 unfolding front prefixes dominates
 front-zero g target passes n limits =
     let keep : Prefix → Bool = λ p. passes (n - 0) p.state && undominated (empty_prefix g ∷ []) p in
@@ -205,34 +206,34 @@ front-zero g target passes n limits =
     let held : keep (empty_prefix g) ≡ true = and_by _ _ (limits.start (n - 0)) alone in
     ap (λ b. cond b (empty_prefix g ∷ []) []) held
 
-Looks-zero : (g : SettingsFields) (target : ℕ) (passes : ℕ → StateFields → Bool) (n : ℕ) → AreLimits g target passes → Looks (nodes_at g passes n 0) (front g passes n 0)
+Looks-zero : (g : SettingsFields) (target : ℕ) (passes : ℕ → StateFields → Bool) (n : ℕ) → LetsStart g target passes → Looks (nodes_at g passes n 0) (front g (start_of g) passes n 0)
 unfolding nodes_at
 Looks-zero g target passes n limits = subst (λ (l : List Prefix). Looks (root_node g ∷ []) l) (sym (front-zero g target passes n limits)) (refl, refl, tt)
 
-pub Ordered-front : (g : SettingsFields) (passes : ℕ → StateFields → Bool) (n k : ℕ) → AreSettings g → Ordered is_before (front g passes n k)
+pub Ordered-front : (g : SettingsFields) (passes : ℕ → StateFields → Bool) (n k : ℕ) → AreSettings g → Ordered is_before (front g (start_of g) passes n k)
 unfolding front
-Ordered-front g passes n k settings = Ordered-filter is_before _ (prefixes g k) (Ordered-prefixes g settings k)
+Ordered-front g passes n k settings = Ordered-filter is_before _ (prefixes g (start_of g) k) (Ordered-prefixes g (start_of g) (start-open g settings) k)
 
 -- the nodes of each level stand for its front
 pub record StandsFor (g : SettingsFields) (passes : ℕ → StateFields → Bool) (n k : ℕ) : Type 0 where
-  pub looks : Looks (nodes_at g passes n k) (front g passes n k)
+  pub looks : Looks (nodes_at g passes n k) (front g (start_of g) passes n k)
 
-pub nodes-next : (g : SettingsFields) (target : ℕ) (passes : ℕ → StateFields → Bool) (n k : ℕ) → AreSettings g → AreLimits g target passes → suc k < n →
-    Looks (nodes_at g passes n k) (front g passes n k) → map (tied g (front g passes n k)) (nodes_at g passes n (suc k)) ≡ front g passes n (suc k)
+pub nodes-next : (g : SettingsFields) (target : ℕ) (passes : ℕ → StateFields → Bool) (n k : ℕ) → AreSettings g → LetsStart g target passes → suc k < n →
+    Looks (nodes_at g passes n k) (front g (start_of g) passes n k) → map (tied g (front g (start_of g) passes n k)) (nodes_at g passes n (suc k)) ≡ front g (start_of g) passes n (suc k)
 unfolding nodes_at
 nodes-next g target passes n k settings limits below looks =
-    let ps = front g passes n k in
+    let ps = front g (start_of g) passes n k in
     let cs : List Prefix = filter (λ (c : Prefix). passes (n - suc k) c.state) (flat_map (children g) ps) in
     let xs : List Node = nodes_by g (goes_and_passes g passes (n - suc k)) (nodes_at g passes n k) in
     let e : map (tied g ps) xs ≡ cs = tied-expanded g passes (n - suc k) ps (nodes_at g passes n k) looks in
     let ordered : Ordered is_before cs = Ordered-filter is_before (λ (c : Prefix). passes (n - suc k) c.state) _
-    (Ordered-next g k ps (λ p m. (prefix-facts g settings k p (front-among g passes n k p m)).length) (Ordered-front g passes n k settings)) in
+    (Ordered-next g k ps (λ p m. (prefix-facts g (start_of g) (start-open g settings) k p (front-among g (start_of g) passes n k p m)).length) (Ordered-front g passes n k settings)) in
     uncovered-tied g ps xs (subst (λ (l : List Prefix). Ordered is_before l) (sym e) ordered)
-    ∙ ap (λ (l : List Prefix). filter (undominated l) l) e ∙ front-next g target passes n k settings limits below
+    ∙ ap (λ (l : List Prefix). filter (undominated l) l) e ∙ front-next g (start_of g) target passes n k (start-open g settings) limits.limits below
 
-pub stands-for : (g : SettingsFields) (target : ℕ) (passes : ℕ → StateFields → Bool) (n k : ℕ) → AreSettings g → AreLimits g target passes → k < n → StandsFor g passes n k
+pub stands-for : (g : SettingsFields) (target : ℕ) (passes : ℕ → StateFields → Bool) (n k : ℕ) → AreSettings g → LetsStart g target passes → k < n → StandsFor g passes n k
 stands-for g target passes n zero settings limits below = record { looks = Looks-zero g target passes n limits }
 stands-for g target passes n (suc k) settings limits below =
     let before = (stands-for g target passes n k settings limits (omega (arith, below))).looks in
     let e = nodes-next g target passes n k settings limits below before in
-    record { looks = subst (λ (l : List Prefix). Looks (nodes_at g passes n (suc k)) l) e (Looks-tied g (front g passes n k) (nodes_at g passes n (suc k))) }
+    record { looks = subst (λ (l : List Prefix). Looks (nodes_at g passes n (suc k)) l) e (Looks-tied g (front g (start_of g) passes n k) (nodes_at g passes n (suc k))) }

@@ -1,7 +1,6 @@
 -- The way of a complete macro.
 use Rattle.std.proofs.Common.{◌≡◌, ◌∙◌, sym, ℕ, set, inl, inr, ◌⊎◌, ◌+◌, ◌-◌, ◌<◌, ◌≤◌, true, false, List, [], ◌∷◌, length, length-drop, get_or, take, drop, Some, None, arith, refl, subst, if◌then◌else◌}
 use Rattle.std.proofs.lemmas.List.{take-append-drop, length-take-le}
-use Rattle.std.proofs.lemmas.Option.{slice_get-get_or}
 use Rattle.action_table.specs.declared.action.Action.{Action}
 use Rattle.craft_state.specs.Craft.{StateFields}
 use Rattle.craft_settings.specs.Ranges.{SettingsFields, AreSettings}
@@ -11,7 +10,7 @@ use Rattle.step_rules.specs.Run.{run_of}
 use Rattle.step_rules.specs.Step.{step_of}
 use Rattle.step_rules.proofs.Bounds.{IsWithin-start}
 use Rattle.step_rules.proofs.LegalFacts.{legal_facts}
-use Rattle.step_rules.proofs.Runs.{run_of-append, run_of-stopped, run_of-take, IsWithin-run, next_legal}
+use Rattle.step_rules.proofs.Runs.{run_of-append, run_of-take, IsWithin-run, next_legal}
 use Rattle.relaxed_moves.specs.Optimum.{option_le, within_of}
 use Rattle.admissible.proofs.Reached.{first-macro, within-run}
 use Rattle.level_search.specs.declared.searcher.Searcher.{Searcher}

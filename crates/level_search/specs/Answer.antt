@@ -19,7 +19,7 @@ HasQuality g m quality = (s : Score) × (score_of g m ≡ Some s) × (s.quality 
 -- each proper prefix of the macro is among the survivors of its length
 abbrev pub Survives : SettingsFields → (grain target : ℕ) → List Action → Type 0
 Survives g grain target m =
-    (k : ℕ) → k < length m → IsListOf (take k m) (front g (reaches g grain target) (length m) k)
+    (k : ℕ) → k < length m → IsListOf (take k m) (front g (start_of g) (reaches g grain target) (length m) k)
 
 -- no complete legal macro of fewer than n actions has this quality
 abbrev pub TakesAtLeast : SettingsFields → (quality n : ℕ) → Type 0

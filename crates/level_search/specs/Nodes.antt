@@ -94,10 +94,13 @@ actions_to levels (suc k) l = actions_to levels k (slice_index_or (slice_index_o
 -- each parent on the way to the start stands in its level
 unfoldable pub Climbs : List (List Link) → ℕ → Link → Type 0
 Climbs levels zero l = Unit {0}
-Climbs levels (suc k) l = (l.parent < length (slice_index_or levels k [])) × Climbs levels k (slice_index_or (slice_index_or levels k []) l.parent l)
+Climbs levels (suc k) l =
+    (l.parent < length (slice_index_or levels k []))
+    × Climbs levels k (slice_index_or (slice_index_or levels k []) l.parent l)
 
 -- the kept nodes of each length up to k: the ways back of the shorter ones, the nodes of length k, and how many there are of each
-pub record AreSurvivors (g : SettingsFields) (passes : Test) (n k : ℕ) (ways : List (List Link)) (nodes : List Node) (sizes : List ℕ) : Type 0 where
+pub record AreSurvivors (g : SettingsFields) (passes : Test) (n k : ℕ)
+    (ways : List (List Link)) (nodes : List Node) (sizes : List ℕ) : Type 0 where
   pub links : ways ≡ map (λ j. map link_of (nodes_at g passes n j)) (range_with_len 0 k)
   pub last : nodes ≡ nodes_at g passes n k
   pub counts : sizes ≡ map (λ j. length (nodes_at g passes n j)) (range_with_len 0 (k + 1))
@@ -105,8 +108,8 @@ pub record AreSurvivors (g : SettingsFields) (passes : Test) (n k : ℕ) (ways :
 -- a macro of n actions, with the sizes of the fronts on its way
 pub record IsFound (g : SettingsFields) (grain target n : ℕ) (actions : List Action) (counts : List ℕ) : Type 0 where
   pub last : Prefix
-  pub among : Contains (completions g target (reaches g grain target) n) last
-  pub soonest : IsSoonest last (completions g target (reaches g grain target) n)
+  pub among : Contains (completions g (start_of g) target (reaches g grain target) n) last
+  pub soonest : IsSoonest last (completions g (start_of g) target (reaches g grain target) n)
   pub actions_is : actions ≡ last.actions
   pub long : length actions ≡ n
   pub counts_is : counts ≡ front_sizes g grain target n

@@ -2,6 +2,7 @@
 use Rattle.std.specs.Prelude.{ℕ, Bool, false, List, ◌&&◌, ◌||◌, nat_le, Option, Some, None, map, length}
 use Rattle.std.specs.List.{range_with_len}
 use Rattle.craft_settings.specs.Ranges.{SettingsFields}
+use Rattle.step_rules.specs.Legality.{start_of}
 use Rattle.relaxed_moves.specs.Optimum.{limit_of, within_of}
 use Rattle.prefix_fronts.specs.Prefix.{Test, front}
 
@@ -18,4 +19,4 @@ reaches g grain target left s =
 
 -- how many survivors there are of each length below n
 abbrev pub front_sizes : SettingsFields → (grain target n : ℕ) → List ℕ
-front_sizes g grain target n = map (λ k. length (front g (reaches g grain target) n k)) (range_with_len 0 n)
+front_sizes g grain target n = map (λ k. length (front g (start_of g) (reaches g grain target) n k)) (range_with_len 0 n)

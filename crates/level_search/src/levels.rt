@@ -1,6 +1,7 @@
 // The search for macros of one length.
 ghost use Rattle.std.specs.Prelude.{◌≡◌, ◌≤◌, ◌-◌, ◌∷◌, [], IfOk, MatchOption, All, map, length};
 ghost use Rattle.std.specs.List.{AllZip};
+ghost use Rattle.step_rules.specs.Legality.{start_of};
 ghost use Rattle.step_rules.specs.declared.legality.TheConstants.{MOST_STEPS};
 ghost use Rattle.pareto_front.specs.Covers.{uncovered};
 ghost use Rattle.prefix_fronts.specs.Prefix.{completions};
@@ -34,7 +35,9 @@ pub(crate) fn search_length<G: Gate>(
     requires of { All (IsSearcherOf aim.now.quality.now aim.now.steps.now) searchers.items }
     requires some { 1 ≤ n }
     requires most { n ≤ MOST_STEPS }
-    ensures found { IfOk result (λ r. MatchOption r.0 (completions aim.now.g.now aim.now.target (test_of aim.now) n ≡ []) (λ f. IsFound aim.now.g.now aim.now.grain aim.now.target n f.actions.items f.counts.items)) }
+    ensures found { IfOk result (λ r. MatchOption r.0
+        (completions aim.now.g.now (start_of aim.now.g.now) aim.now.target (test_of aim.now) n ≡ [])
+        (λ f. IsFound aim.now.g.now aim.now.grain aim.now.target n f.actions.items f.counts.items)) }
     ensures of { IfOk result (λ r. All (IsSearcherOf aim.now.quality.now aim.now.steps.now) r.1.items) }
     ensures still { IfOk result (λ r. AllZip StillSearches searchers.items r.1.items) }
 {
@@ -65,7 +68,8 @@ fn survivors_of<G: Gate>(
     requires of { All (IsSearcherOf aim.now.quality.now aim.now.steps.now) searchers.items }
     requires some { 1 ≤ n }
     requires most { n ≤ MOST_STEPS }
-    ensures survivors { IfOk result (λ r. AreSurvivors aim.now.g.now (test_of aim.now) n (n - 1) (map (λ v. v.items) r.0.links.items) r.0.last.items r.0.counts.items) }
+    ensures survivors { IfOk result (λ r. AreSurvivors aim.now.g.now (test_of aim.now) n (n - 1)
+        (map (λ v. v.items) r.0.links.items) r.0.last.items r.0.counts.items) }
     ensures of { IfOk result (λ r. All (IsSearcherOf aim.now.quality.now aim.now.steps.now) r.1.items) }
     ensures still { IfOk result (λ r. AllZip StillSearches searchers.items r.1.items) }
 {
@@ -119,7 +123,8 @@ fn next_level<G: Gate>(
     requires high { length searchers.items ≤ 64 }
     requires of { All (IsSearcherOf aim.now.quality.now aim.now.steps.now) searchers.items }
     requires nodes { All (IsNode aim.now.g.now) level.now }
-    ensures kept { IfOk result (λ r. r.0.items ≡ uncovered (nodes_by aim.now.g.now (goes_and_passes aim.now.g.now (test_of aim.now) left) level.now)) }
+    ensures kept { IfOk result (λ r. r.0.items
+        ≡ uncovered (nodes_by aim.now.g.now (goes_and_passes aim.now.g.now (test_of aim.now) left) level.now)) }
     ensures of { IfOk result (λ r. All (IsSearcherOf aim.now.quality.now aim.now.steps.now) r.1.items) }
     ensures still { IfOk result (λ r. AllZip StillSearches searchers.items r.1.items) }
 {
@@ -139,8 +144,11 @@ fn last_step(
 ) -> Result<Option<FoundMacro>, WantMemory>
     requires some { 1 ≤ n }
     requires most { n ≤ MOST_STEPS }
-    requires survivors { AreSurvivors aim.now.g.now (test_of aim.now) n (n - 1) (map (λ v. v.items) survivors.links.items) survivors.last.items survivors.counts.items }
-    ensures { IfOk result (λ r. MatchOption r (completions aim.now.g.now aim.now.target (test_of aim.now) n ≡ []) (λ f. IsFound aim.now.g.now aim.now.grain aim.now.target n f.actions.items f.counts.items)) }
+    requires survivors { AreSurvivors aim.now.g.now (test_of aim.now) n (n - 1)
+        (map (λ v. v.items) survivors.links.items) survivors.last.items survivors.counts.items }
+    ensures { IfOk result (λ r. MatchOption r
+        (completions aim.now.g.now (start_of aim.now.g.now) aim.now.target (test_of aim.now) n ≡ [])
+        (λ f. IsFound aim.now.g.now aim.now.grain aim.now.target n f.actions.items f.counts.items)) }
 {
     let Survivors {
         mut links,

@@ -1,2 +1,3 @@
+pub mod Continuation
 pub mod Total
 pub mod Transitive

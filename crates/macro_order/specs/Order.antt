@@ -1,5 +1,5 @@
 -- Which of two complete macros is better.
-use Rattle.std.specs.Prelude.{ℕ, Bool, true, false, List, [], ◌∷◌, Option, Some, None, ◌≡◌, ◌⊎◌, ◌+◌, ◌&&◌, ◌||◌, ◌==◌, nat_lt, length, if◌then◌else◌}
+use Rattle.std.specs.Prelude.{ℕ, Bool, true, false, List, [], ◌∷◌, ◌++◌, Option, Some, None, ◌≡◌, ◌⊎◌, ◌+◌, ◌&&◌, ◌||◌, ◌==◌, nat_lt, length, if◌then◌else◌}
 use Rattle.action_table.specs.declared.action.Action.{Action}
 use Rattle.action_table.specs.Table.{number_of, action_seconds}
 use Rattle.craft_state.specs.Craft.{StateFields}
@@ -57,3 +57,14 @@ IsBest g m = IsBestFrom g (start_of g) m
 -- no legal macro completes the craft
 abbrev pub NothingCompletes : SettingsFields → Type 0
 NothingCompletes g = NothingCompletesFrom g (start_of g)
+
+-- the actions that are done and then the list complete the craft, and are better than with each other list
+pub record IsBestAfter (g : SettingsFields) (done c : List Action) : Type 0 where
+  pub score : Score
+  pub completes : score_of g (done ++ c) ≡ Some score
+  pub best : (n : List Action) (b : Score) → score_of g (done ++ n) ≡ Some b →
+      (c ≡ n) ⊎ (is_better score (done ++ c) b (done ++ n) ≡ true)
+
+-- no list completes the craft after the actions that are done
+abbrev pub NothingCompletesAfter : SettingsFields → List Action → Type 0
+NothingCompletesAfter g done = (m : List Action) → score_of g (done ++ m) ≡ None

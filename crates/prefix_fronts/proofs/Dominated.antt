@@ -1,4 +1,4 @@
--- A dominated prefix is no prefix of the best macro.
+-- A dominated prefix is no prefix of the best list from the state.
 use Rattle.std.proofs.Common.{◌≡◌, ◌∙◌, sym, ℕ, zero, suc, ◌+◌, ◌-◌, ◌<◌, ◌≤◌, Bool, true, not, ◌&&◌, ◌||◌, ◌==◌, nat_lt, inl, inr, List, [], ◌∷◌, ◌++◌, length, length-append, take, drop, Some, None, arith, refl, ap, subst, if◌then◌else◌}
 use Rattle.plain_lemmas.proofs.Places.{Contains-Among, Among-Contains}
 use Rattle.plain_lemmas.proofs.Tests.{bool_cases, and_both}
@@ -9,8 +9,8 @@ use Rattle.action_table.specs.declared.action.Action.{Action}
 use Rattle.action_table.specs.Table.{number_of}
 use Rattle.craft_state.specs.Craft.{StateFields}
 use Rattle.craft_state.specs.NotLess.{IsNotLess}
-use Rattle.craft_settings.specs.Ranges.{SettingsFields, AreSettings}
-use Rattle.step_rules.specs.Legality.{start_of, is_legal, is_over, is_complete}
+use Rattle.craft_settings.specs.Ranges.{SettingsFields}
+use Rattle.step_rules.specs.Legality.{is_legal, is_over, is_complete}
 use Rattle.step_rules.specs.Step.{step_of}
 use Rattle.step_rules.specs.Run.{run_of}
 use Rattle.step_rules.specs.Macro.{counted}
@@ -18,26 +18,27 @@ use Rattle.step_rules.proofs.Runs.{run_of-append}
 use Rattle.dominance.proofs.Children.{is_legal-not_less, IsNotLess-step}
 use Rattle.dominance.proofs.Finishing.{finishes-not_less}
 use Rattle.macro_order.specs.declared.scores.Score.{Score}
-use Rattle.macro_order.specs.Order.{seconds_of, scored, score_of, is_better, precedes, IsBest}
+use Rattle.macro_order.specs.Order.{seconds_of, scored, score_from, is_better, precedes, IsBestFrom}
+use Rattle.macro_order.proofs.Continuation.{seconds_of-append}
 use Rattle.macro_order.proofs.Total.{better_not}
-use Rattle.prefix_fronts.specs.Prefix.{Prefix, empty_prefix, extend, goes_on, children, prefixes, dominates, DominatesAt, undominated, survivors, IsListOf}
+use Rattle.prefix_fronts.specs.Prefix.{IsOpen, Prefix, empty_from, extend, goes_on, children, prefixes, dominates, DominatesAt, undominated, survivors, IsListOf}
 use Rattle.plain_lemmas.proofs.Lists.{Among, Among-filter, flat_map-Among, any-Among}
 use Rattle.prefix_fronts.proofs.Dominance.{IsNotLess-dominates, child_dominated}
 use Rattle.prefix_fronts.proofs.Members.{prefix-facts, Among-next, children-Among}
 use Rattle.prefix_fronts.proofs.Sorted.{step_or}
-use Rattle.prefix_fronts.proofs.Best.{no_legal_when_over, score-says, counted_le, better_quality, better_sooner, at_most, run-ends, Among-start, Among-live}
+use Rattle.prefix_fronts.proofs.Best.{no_legal_when_over, score-says, counted_le, better_quality, better_sooner, at_most, run-ends, Among-first}
 
 -- the same child of the prefix that dominates
-pub same-child : (g : SettingsFields) (k : ℕ) (p q : Prefix) (action : Action) → AreSettings g → DominatesAt g k p q → goes_on g q.state action ≡ true →
-    DominatesAt g (suc k) (extend g p action) (extend g q action)
-same-child g k p q action settings h go =
+pub same-child : (g : SettingsFields) (s : StateFields) (k : ℕ) (p q : Prefix) (action : Action) → IsOpen g s → DominatesAt g s k p q → goes_on g q.state action ≡ true →
+    DominatesAt g s (suc k) (extend g p action) (extend g q action)
+same-child g s k p q action is_open h go =
     let mp = Contains-Among _ p h.first in
     let mq = Contains-Among _ q h.second in
-    let same : length p.actions ≡ length q.actions = (prefix-facts g settings k p mp).length ∙ sym (prefix-facts g settings k q mq).length in
+    let same : length p.actions ≡ length q.actions = (prefix-facts g s is_open k p mp).length ∙ sym (prefix-facts g s is_open k q mq).length in
     let d = child_dominated g p q action same h.over go in
     record {
-      first = Among-Contains _ _ (Among-next g k p action mp d.0);
-      second = Among-Contains _ _ (Among-next g k q action mq go);
+      first = Among-Contains _ _ (Among-next g s k p action mp d.0);
+      second = Among-Contains _ _ (Among-next g s k q action mq go);
       over = d.1;
     }
 
@@ -87,10 +88,6 @@ runs-not_less g a b (x ∷ r) last h ran full =
           record { last = more.last; ran = first ∙ more.ran; full = more.full; quality = more.quality }
     ]
 
-pub seconds_of-append : (m r : List Action) → seconds_of (m ++ r) ≡ seconds_of m + seconds_of r
-seconds_of-append [] r = omega arith
-seconds_of-append (a ∷ m) r = let rest = seconds_of-append m r in omega (arith, rest)
-
 pub precedes-append : (m n r : List Action) → precedes m n ≡ true → precedes (m ++ r) (n ++ r) ≡ true
 precedes-append [] n r h = cc
 precedes-append (a ∷ m) [] r h = cc
@@ -102,22 +99,22 @@ sooner_still x y d p q t h = grind (arith, nat_tests, t)
 some-same : (s t : Score) → Some s ≡ Some t → s ≡ t
 some-same s t h = cc
 
--- the rest of the best macro after a prefix that dominates one of its own makes a better one
-pub never-dominated : (g : SettingsFields) (m : List Action) (k : ℕ) (p q : Prefix) → AreSettings g → IsBest g m → Among p (prefixes g k) → Among q (prefixes g k) →
+-- the rest of the best list after a prefix that dominates one of its own makes a better one
+pub never-dominated : (g : SettingsFields) (s : StateFields) (m : List Action) (k : ℕ) (p q : Prefix) → IsOpen g s → IsBestFrom g s m → Among p (prefixes g s k) → Among q (prefixes g s k) →
     q.actions ≡ take k m → dominates p q ≡ true → ⊥
 unfolding dominates
-never-dominated g m k p q settings best mp mq cut h =
+never-dominated g s m k p q is_open best mp mq cut h =
     let r = drop k m in
     let n = p.actions ++ r in
-    let fp = prefix-facts g settings k p mp in
-    let fq = prefix-facts g settings k q mq in
+    let fp = prefix-facts g s is_open k p mp in
+    let fq = prefix-facts g s is_open k q mq in
     let split : q.actions ++ r ≡ m = ap (λ l. l ++ r) cut ∙ take-append-drop k m in
     let says = score-says g m _ best.score best.completes in
-    let ran : run_of g q.state r ≡ Some says.last = sym (run_of-append g (start_of g) q.state q.actions r fq.ran) ∙ ap (run_of g (start_of g)) split ∙ says.ran in
+    let ran : run_of g q.state r ≡ Some says.last = sym (run_of-append g s q.state q.actions r fq.ran) ∙ ap (run_of g s) split ∙ says.ran in
     let other = runs-not_less g p.state q.state r says.last (IsNotLess-dominates p q h) ran says.full in
     let mine : Score = record { quality = counted g other.last; steps = length n; seconds = seconds_of n } in
-    let completes : score_of g n ≡ Some mine =
-    ap (scored g n) (run_of-append g (start_of g) p.state p.actions r fp.ran ∙ other.ran) ∙ ap (λ b. if b then Some mine else None) other.full in
+    let completes : score_from g s n ≡ Some mine =
+    ap (scored g n) (run_of-append g s p.state p.actions r fp.ran ∙ other.ran) ∙ ap (λ b. if b then Some mine else None) other.full in
     let more : best.score.quality ≤ mine.quality = let c = counted_le g says.last other.last other.quality in omega (arith, c, says.quality) in
     let steps : mine.steps ≡ best.score.steps = omega (arith, says.steps, ap length split, length-append p.actions r, length-append q.actions r, fp.length, fq.length) in
     let took : mine.seconds ≡ p.seconds + seconds_of r = seconds_of-append p.actions r ∙ ap (λ s. s + seconds_of r) (sym fp.seconds) in
@@ -133,51 +130,51 @@ never-dominated g m k p q settings best mp mq cut h =
     elim (best.best n mine completes) [
       | inr worse ↦ better_not n m mine best.score wins worse
       | inl same ↦
-          let e : best.score ≡ mine = some-same best.score mine (sym best.completes ∙ ap (score_of g) same ∙ completes) in
+          let e : best.score ≡ mine = some-same best.score mine (sym best.completes ∙ ap (score_from g s) same ∙ completes) in
           let self : is_better mine n mine n ≡ true = subst (λ (s : Score). is_better mine n s n ≡ true) e (subst (λ (l : List Action). is_better mine n best.score l ≡ true) same wins) in
           better_not n n mine mine self self
     ]
 
-best-undominated : (g : SettingsFields) (m : List Action) (k : ℕ) (q : Prefix) → AreSettings g → IsBest g m → Among q (prefixes g k) → q.actions ≡ take k m →
-    undominated (prefixes g k) q ≡ true
-best-undominated g m k q settings best here cut =
-    elim (bool_cases (list_any (λ p. dominates p q) (prefixes g k))) [
+best-undominated : (g : SettingsFields) (s : StateFields) (m : List Action) (k : ℕ) (q : Prefix) → IsOpen g s → IsBestFrom g s m → Among q (prefixes g s k) → q.actions ≡ take k m →
+    undominated (prefixes g s k) q ≡ true
+best-undominated g s m k q is_open best here cut =
+    elim (bool_cases (list_any (λ p. dominates p q) (prefixes g s k))) [
       | inr none ↦ ap not none
-      | inl some ↦ let w = any-Among (λ p. dominates p q) (prefixes g k) some in absurd (never-dominated g m k w.0 q settings best w.1 here cut w.2)
+      | inl some ↦ let w = any-Among (λ p. dominates p q) (prefixes g s k) some in absurd (never-dominated g s m k w.0 q is_open best w.1 here cut w.2)
     ]
 
 -- the live prefix with the first actions of a longer one
-record StartsWith (g : SettingsFields) (k : ℕ) (actions : List Action) : Type 0 where
+record StartsWith (g : SettingsFields) (s : StateFields) (k : ℕ) (actions : List Action) : Type 0 where
   pub prefix : Prefix
-  pub among : Among prefix (prefixes g k)
+  pub among : Among prefix (prefixes g s k)
   pub is : take k actions ≡ prefix.actions
 
-starts-with : (g : SettingsFields) (d k j : ℕ) (p : Prefix) → AreSettings g → j ≡ d + k → Among p (prefixes g j) → StartsWith g k p.actions
+starts-with : (g : SettingsFields) (s : StateFields) (d k j : ℕ) (p : Prefix) → IsOpen g s → j ≡ d + k → Among p (prefixes g s j) → StartsWith g s k p.actions
 unfolding prefixes
-starts-with g zero k j p settings e h =
+starts-with g s zero k j p is_open e h =
     let same : j ≡ k = omega (arith, e) in
-    let here : Among p (prefixes g k) = subst (λ i. Among p (prefixes g i)) same h in
-    record { prefix = p; among = here; is = take_all k p.actions (omega (arith, (prefix-facts g settings k p here).length)) }
-starts-with g (suc d) k j p settings e h =
+    let here : Among p (prefixes g s k) = subst (λ i. Among p (prefixes g s i)) same h in
+    record { prefix = p; among = here; is = take_all k p.actions (omega (arith, (prefix-facts g s is_open k p here).length)) }
+starts-with g s (suc d) k j p is_open e h =
     let same : j ≡ suc (d + k) = omega (arith, e) in
-    let here : Among p (prefixes g (suc (d + k))) = subst (λ i. Among p (prefixes g i)) same h in
-    let f = flat_map-Among (children g) p (prefixes g (d + k)) here in
+    let here : Among p (prefixes g s (suc (d + k))) = subst (λ i. Among p (prefixes g s i)) same h in
+    let f = flat_map-Among (children g) p (prefixes g s (d + k)) here in
     let by = children-Among g f.0 p f.2 in
-    let rest = starts-with g d k (d + k) f.0 settings refl f.1 in
-    let long = (prefix-facts g settings (d + k) f.0 f.1).length in
+    let rest = starts-with g s d k (d + k) f.0 is_open refl f.1 in
+    let long = (prefix-facts g s is_open (d + k) f.0 f.1).length in
     let cut : take k (f.0.actions ++ by.action ∷ []) ≡ take k f.0.actions = take-append-le k f.0.actions (by.action ∷ []) (omega (arith, long)) in
     record { prefix = rest.prefix; among = rest.among; is = ap (λ (q : Prefix). take k q.actions) (sym by.is) ∙ cut ∙ rest.is }
 
-pub best-survives : (g : SettingsFields) (m : List Action) (k : ℕ) → AreSettings g → IsBest g m → k < length m → IsListOf (take k m) (survivors (prefixes g k))
-best-survives g m k settings best below =
+pub best-survives : (g : SettingsFields) (s : StateFields) (m : List Action) (k : ℕ) → IsOpen g s → IsBestFrom g s m → k < length m → IsListOf (take k m) (survivors (prefixes g s k))
+best-survives g s m k is_open best below =
     let says = score-says g m _ best.score best.completes in
-    let ends = run-ends g 0 (empty_prefix g) m says.last (Among-start g) (Among-live g settings) says.ran says.full in
+    let ends = run-ends g s 0 (empty_from s) m says.last (Among-first g s) is_open.live says.ran says.full in
     let e = ends.ends in
-    let long = (prefix-facts g settings ends.place e.before e.among).length in
+    let long = (prefix-facts g s is_open ends.place e.before e.among).length in
     let steps : length m ≡ ends.place + 1 = omega (arith, ap length e.is, length-append e.before.actions (e.action ∷ []), long) in
     let split : ends.place ≡ ends.place - k + k = omega (arith, steps, below) in
-    let r = starts-with g (ends.place - k) k ends.place e.before settings split e.among in
+    let r = starts-with g s (ends.place - k) k ends.place e.before is_open split e.among in
     let cut : take k (e.before.actions ++ e.action ∷ []) ≡ take k e.before.actions = take-append-le k e.before.actions (e.action ∷ []) (omega (arith, long, steps, below)) in
     let is : take k m ≡ r.prefix.actions = ap (take k) e.is ∙ cut ∙ r.is in
-    let free = best-undominated g m k r.prefix settings best r.among (sym is) in
-    (r.prefix, Among-Contains _ r.prefix (Among-filter (undominated (prefixes g k)) r.prefix (prefixes g k) r.among free), is)
+    let free = best-undominated g s m k r.prefix is_open best r.among (sym is) in
+    (r.prefix, Among-Contains _ r.prefix (Among-filter (undominated (prefixes g s k)) r.prefix (prefixes g s k) r.among free), is)

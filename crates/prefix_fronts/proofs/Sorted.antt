@@ -1,13 +1,14 @@
 -- The live prefixes of a length stand in action order.
-use Rattle.std.proofs.Common.{◌≡◌, ◌∙◌, sym, ℕ, zero, suc, ◌+◌, ◌<◌, ◌≤◌, Bool, true, false, cond, ◌&&◌, ◌||◌, ◌==◌, nat_lt, inl, inr, List, [], ◌∷◌, ◌++◌, length, arith, refl, subst, map}
+use Rattle.std.proofs.Common.{◌≡◌, ◌∙◌, sym, ℕ, zero, suc, ◌+◌, ◌≤◌, Bool, true, false, cond, ◌&&◌, ◌||◌, ◌==◌, nat_lt, inl, inr, List, [], ◌∷◌, ◌++◌, length, arith, refl, subst, map}
 use Rattle.plain_lemmas.proofs.Tests.{lt_to}
 use Rattle.std.specs.List.{filter, flat_map}
 use Rattle.std.proofs.lemmas.Bool.Decides.{nat_tests}
 use Rattle.action_table.specs.declared.action.Action.{Action}
 use Rattle.action_table.specs.Table.{number_of, all_actions}
-use Rattle.craft_settings.specs.Ranges.{SettingsFields, AreSettings}
+use Rattle.craft_state.specs.Craft.{StateFields}
+use Rattle.craft_settings.specs.Ranges.{SettingsFields}
 use Rattle.macro_order.specs.Order.{precedes}
-use Rattle.prefix_fronts.specs.Prefix.{Prefix, extend, goes_on, children, prefixes}
+use Rattle.prefix_fronts.specs.Prefix.{IsOpen, Prefix, extend, goes_on, children, prefixes}
 use Rattle.plain_lemmas.proofs.Lists.{Among, filter-Among, Among-append_cases, flat_map-Among, map-Among}
 use Rattle.prefix_fronts.proofs.Members.{children-Among, prefix-facts}
 
@@ -102,7 +103,7 @@ Ordered-next g k ps long h =
     subst (λ (z : Prefix). precedes c.actions z.actions ≡ true) bd.is (subst (λ (z : Prefix). precedes z.actions (extend g q bd.action).actions ≡ true) bc.is r))
     h
 
-pub Ordered-prefixes : (g : SettingsFields) → AreSettings g → (k : ℕ) → Ordered is_before (prefixes g k)
+pub Ordered-prefixes : (g : SettingsFields) (s : StateFields) → IsOpen g s → (k : ℕ) → Ordered is_before (prefixes g s k)
 unfolding prefixes
-Ordered-prefixes g settings zero = (λ y m. absurd m, tt)
-Ordered-prefixes g settings (suc k) = Ordered-next g k (prefixes g k) (λ p m. (prefix-facts g settings k p m).length) (Ordered-prefixes g settings k)
+Ordered-prefixes g s is_open zero = (λ y m. absurd m, tt)
+Ordered-prefixes g s is_open (suc k) = Ordered-next g k (prefixes g s k) (λ p m. (prefix-facts g s is_open k p m).length) (Ordered-prefixes g s is_open k)

@@ -1,5 +1,5 @@
--- The live prefixes of each length, and the fronts among them.
-use Rattle.std.specs.Prelude.{ℕ, zero, suc, Bool, true, false, List, [], ◌∷◌, ◌++◌, ◌≡◌, ◌+◌, ◌-◌, ◌<◌, ◌≤◌, ◌&&◌, ◌||◌, ◌==◌, not, nat_lt, filter, length, map, take, All, Contains, Some, ◌⊎◌}
+-- The live prefixes of each length from a state, and the fronts among them.
+use Rattle.std.specs.Prelude.{ℕ, zero, suc, Bool, true, false, List, [], ◌∷◌, ◌++◌, ◌≡◌, ◌+◌, ◌-◌, ◌/◌, ◌<◌, ◌≤◌, ◌&&◌, ◌||◌, ◌==◌, not, nat_lt, filter, length, map, take, All, Contains, Some, ◌⊎◌}
 use Rattle.std.specs.List.{flat_map, list_any}
 use Rattle.action_table.specs.declared.action.Action.{Action}
 use Rattle.action_table.specs.Table.{all_actions, action_seconds}
@@ -8,20 +8,30 @@ use Rattle.craft_settings.specs.Ranges.{SettingsFields, AreSettings}
 use Rattle.step_rules.specs.Legality.{start_of, is_complete, is_over, is_legal, IsWithin}
 use Rattle.step_rules.specs.Step.{step_of}
 use Rattle.craft_state.specs.NotLess.{IsNotLess, is_not_less}
-use Rattle.step_rules.specs.declared.legality.TheConstants.{MOST_STEPS}
-use Rattle.step_rules.specs.Macro.{counted, IsReached}
-use Rattle.macro_order.specs.Order.{precedes, score_of, IsBest}
+use Rattle.step_rules.specs.Run.{run_of}
+use Rattle.step_rules.specs.Measure.{measure}
+use Rattle.step_rules.specs.Macro.{Completes, counted}
+use Rattle.macro_order.specs.Order.{precedes, score_from, IsBestFrom}
 use Rattle.macro_order.specs.declared.scores.Score.{Score}
 
--- a list of actions from the start, with the state and the seconds that it leads to
+-- a state of a craft with these settings that isn't over
+pub record IsOpen (g : SettingsFields) (s : StateFields) : Type 0 where
+  pub within : IsWithin g s
+  pub live : is_over g s ≡ false
+
+-- a list of actions from a state, with the state and the seconds that it leads to
 pub record Prefix : Type 0 where
   pub actions : List Action
   pub state : StateFields
   pub seconds : ℕ
 
 -- no action yet
+abbrev pub empty_from : StateFields → Prefix
+empty_from s = record { actions = []; state = s; seconds = 0 }
+
+-- no action yet, from the start
 abbrev pub empty_prefix : SettingsFields → Prefix
-empty_prefix g = record { actions = []; state = start_of g; seconds = 0 }
+empty_prefix g = empty_from (start_of g)
 
 -- one more action
 abbrev pub extend : SettingsFields → Prefix → Action → Prefix
@@ -39,10 +49,10 @@ goes_on g s action = is_legal g s action && not (is_over g (step_of g s action))
 abbrev pub children : SettingsFields → Prefix → List Prefix
 children g p = map (extend g p) (filter (goes_on g p.state) all_actions)
 
--- the live legal prefixes of a length, in order
-unfoldable pub prefixes : SettingsFields → ℕ → List Prefix
-prefixes g zero = empty_prefix g ∷ []
-prefixes g (suc k) = flat_map (children g) (prefixes g k)
+-- the live legal prefixes of a length from a state, in order
+unfoldable pub prefixes : SettingsFields → StateFields → ℕ → List Prefix
+prefixes g s zero = empty_from s ∷ []
+prefixes g s (suc k) = flat_map (children g) (prefixes g s k)
 
 -- fewer seconds, or as many and the smaller action number at the first place of difference
 abbrev pub is_sooner : Prefix → Prefix → Bool
@@ -52,10 +62,10 @@ is_sooner p q = nat_lt p.seconds q.seconds || (p.seconds == q.seconds && precede
 unfoldable pub dominates : Prefix → Prefix → Bool
 dominates p q = is_not_less p.state q.state && is_sooner p q
 
--- both are live legal prefixes of a length, and the first dominates the second
-pub record DominatesAt (g : SettingsFields) (k : ℕ) (p q : Prefix) : Type 0 where
-  pub first : Contains (prefixes g k) p
-  pub second : Contains (prefixes g k) q
+-- both are live legal prefixes of a length from a state, and the first dominates the second
+pub record DominatesAt (g : SettingsFields) (s : StateFields) (k : ℕ) (p q : Prefix) : Type 0 where
+  pub first : Contains (prefixes g s k) p
+  pub second : Contains (prefixes g s k) q
   pub over : dominates p q ≡ true
 
 -- no prefix of the list dominates this one
@@ -70,14 +80,13 @@ survivors among = filter (undominated among) among
 abbrev pub Test : Type 0
 Test = ℕ → StateFields → Bool
 
--- the passing prefixes of length k that no prefix of this length dominates; the total length is n
-unfoldable pub front : SettingsFields → Test → ℕ → ℕ → List Prefix
-front g passes n k = filter (λ p. passes (n - k) p.state && undominated (prefixes g k) p) (prefixes g k)
+-- the passing prefixes of length k from a state that no prefix of this length dominates; the total length is n
+unfoldable pub front : SettingsFields → StateFields → Test → ℕ → ℕ → List Prefix
+front g s passes n k = filter (λ p. passes (n - k) p.state && undominated (prefixes g s k) p) (prefixes g s k)
 
--- what a test keeps: the start passes; a state passes where a live next state does with one action fewer left, where
--- a state that is not more does, and where one action completes the craft with the target's quality
+-- what a test keeps: a state passes where a live next state does with one action fewer left, where a state that is
+-- not more does, and where one action completes the craft with the target's quality
 pub record AreLimits (g : SettingsFields) (target : ℕ) (passes : Test) : Type 0 where
-  pub start : (j : ℕ) → passes j (start_of g) ≡ true
   pub step : (j : ℕ) (s : StateFields) (action : Action) →
       IsWithin g s → is_over g s ≡ false → is_legal g s action ≡ true → is_over g (step_of g s action) ≡ false →
       passes j (step_of g s action) ≡ true → passes (j + 1) s ≡ true
@@ -101,65 +110,90 @@ abbrev pub finishers : SettingsFields → ℕ → List Prefix → List Prefix
 finishers g target kept = flat_map (λ p. map (extend g p) (filter (finishes g target p.state) all_actions)) kept
 
 -- the completions of n actions that the last front leads to
-abbrev pub completions : SettingsFields → ℕ → Test → ℕ → List Prefix
-completions g target passes n = finishers g target (front g passes n (n - 1))
+abbrev pub completions : SettingsFields → StateFields → ℕ → Test → ℕ → List Prefix
+completions g s target passes n = finishers g target (front g s passes n (n - 1))
+
+-- no list that completes the craft from a state has more quality
+abbrev pub IsGreatestFrom : SettingsFields → StateFields → ℕ → Type 0
+IsGreatestFrom g from target = (m : List Action) (b : Score) → score_from g from m ≡ Some b → b.quality ≤ target
 
 -- no complete legal macro has more quality
 abbrev pub IsGreatest : SettingsFields → ℕ → Type 0
-IsGreatest g target = (m : List Action) (s : Score) → score_of g m ≡ Some s → s.quality ≤ target
+IsGreatest g target = IsGreatestFrom g (start_of g) target
+
+-- some list completes the craft from a state with this quality
+pub record IsReachedFrom (g : SettingsFields) (from : StateFields) (quality : ℕ) : Type 0 where
+  pub actions : List Action
+  pub completes : Completes g from actions
+  pub same : counted g completes.last ≡ quality
 
 -- the first of the completions of a list, by seconds and then by the actions
 abbrev pub IsSoonest : Prefix → List Prefix → Type 0
 IsSoonest p among = All (λ q. (p ≡ q) ⊎ (is_sooner p q ≡ true)) among
 
--- what shows that a macro of n actions is the best
-pub record IsFirstFound (g : SettingsFields) (target : ℕ) (passes : Test) (n : ℕ) (found : Prefix) : Type 0 where
+-- what shows that a list of n actions is the best from a state
+pub record IsFirstFound (g : SettingsFields) (s : StateFields) (target : ℕ) (passes : Test) (n : ℕ) (found : Prefix) : Type 0 where
   pub some : 0 < n
-  pub none_before : (k : ℕ) → k + 1 < n → finishers g target (front g passes (k + 1) k) ≡ []
-  pub among : Contains (completions g target passes n) found
-  pub soonest : IsSoonest found (completions g target passes n)
+  pub none_before : (j : ℕ) → 0 < j → j < n → completions g s target passes j ≡ []
+  pub among : Contains (completions g s target passes n) found
+  pub soonest : IsSoonest found (completions g s target passes n)
 
 -- a list of actions is that of one of these prefixes
 abbrev pub IsListOf : List Action → List Prefix → Type 0
 IsListOf m among = (q : Prefix) × Contains among q × (m ≡ q.actions)
 
--- the first completion that is found is the best macro
+-- the start is open
+abbrev pub start_is_open : Type 0
+start_is_open = (g : SettingsFields) → AreSettings g → IsOpen g (start_of g)
+
+-- what legal actions lead to from an open state is open, unless it is over
+abbrev pub stays_open : Type 0
+stays_open = (g : SettingsFields) (s last : StateFields) (m : List Action) →
+    IsOpen g s → run_of g s m ≡ Some last → is_over g last ≡ false → IsOpen g last
+
+-- the first completion that is found is the best from the state
 abbrev pub first_is_best : Type 0
-first_is_best = (g : SettingsFields) (target : ℕ) (passes : Test) (n : ℕ) (found : Prefix) →
-    AreSettings g → AreLimits g target passes → IsGreatest g target →
-    IsFirstFound g target passes n found → IsBest g found.actions
+first_is_best = (g : SettingsFields) (s : StateFields) (target : ℕ) (passes : Test) (n : ℕ) (found : Prefix) →
+    IsOpen g s → AreLimits g target passes → IsGreatestFrom g s target →
+    IsFirstFound g s target passes n found → IsBestFrom g s found.actions
+
+-- the front of no action is the state itself, if it passes
+abbrev pub first_front : Type 0
+first_front = (g : SettingsFields) (s : StateFields) (passes : Test) (n : ℕ) →
+    front g s passes n 0 ≡ filter (λ p. passes n p.state) (empty_from s ∷ [])
 
 -- the undominated passing children of a front are the next front
 abbrev pub next_fronts : Type 0
-next_fronts = (g : SettingsFields) (target : ℕ) (passes : Test) (n k : ℕ) →
-    AreSettings g → AreLimits g target passes → k + 1 < n →
-    survivors (next_children g passes (n - (k + 1)) (front g passes n k)) ≡ front g passes n (k + 1)
+next_fronts = (g : SettingsFields) (s : StateFields) (target : ℕ) (passes : Test) (n k : ℕ) →
+    IsOpen g s → AreLimits g target passes → k + 1 < n →
+    survivors (next_children g passes (n - (k + 1)) (front g s passes n k)) ≡ front g s passes n (k + 1)
 
 -- each proper prefix of what the last front leads to is in its front
 abbrev pub prefixes_in_fronts : Type 0
-prefixes_in_fronts = (g : SettingsFields) (target : ℕ) (passes : Test) (n k : ℕ) (c : Prefix) →
-    AreSettings g → AreLimits g target passes → k < n →
-    Contains (completions g target passes n) c → IsListOf (take k c.actions) (front g passes n k)
+prefixes_in_fronts = (g : SettingsFields) (s : StateFields) (target : ℕ) (passes : Test) (n k : ℕ) (c : Prefix) →
+    IsOpen g s → AreLimits g target passes → k < n →
+    Contains (completions g s target passes n) c → IsListOf (take k c.actions) (front g s passes n k)
 
 -- a live child of a dominated prefix is dominated, by the same child of the prefix that dominates it
 abbrev pub dominance_passes_on : Type 0
-dominance_passes_on = (g : SettingsFields) (k : ℕ) (p q : Prefix) (action : Action) →
-    AreSettings g → DominatesAt g k p q → goes_on g q.state action ≡ true →
-    DominatesAt g (k + 1) (extend g p action) (extend g q action)
+dominance_passes_on = (g : SettingsFields) (s : StateFields) (k : ℕ) (p q : Prefix) (action : Action) →
+    IsOpen g s → DominatesAt g s k p q → goes_on g q.state action ≡ true →
+    DominatesAt g s (k + 1) (extend g p action) (extend g q action)
 
--- a dominated prefix is no prefix of the best macro
+-- a dominated prefix is no prefix of the best list from the state
 abbrev pub best_is_undominated : Type 0
-best_is_undominated = (g : SettingsFields) (m : List Action) (k : ℕ) (p q : Prefix) →
-    AreSettings g → IsBest g m → DominatesAt g k p q → take k m ≡ q.actions → ⊥
+best_is_undominated = (g : SettingsFields) (s : StateFields) (m : List Action) (k : ℕ) (p q : Prefix) →
+    IsOpen g s → IsBestFrom g s m → DominatesAt g s k p q → take k m ≡ q.actions → ⊥
 
--- each proper prefix of the best macro is one of the undominated prefixes of its length
+-- each proper prefix of the best list from the state is one of the undominated prefixes of its length
 abbrev pub best_survives : Type 0
-best_survives = (g : SettingsFields) (m : List Action) (k : ℕ) →
-    AreSettings g → IsBest g m → k < length m → IsListOf (take k m) (survivors (prefixes g k))
+best_survives = (g : SettingsFields) (s : StateFields) (m : List Action) (k : ℕ) →
+    IsOpen g s → IsBestFrom g s m → k < length m → IsListOf (take k m) (survivors (prefixes g s k))
 
--- where a complete legal macro has the quality that is wanted, some completion has as many actions
+-- where a list completes with the quality that is wanted, some completion has as many actions, and a list from an open
+-- state isn't longer than a quarter of the state's measure
 abbrev pub reached_is_found : Type 0
-reached_is_found = (g : SettingsFields) (target : ℕ) (passes : Test) (reached : IsReached g target) →
-    AreSettings g → AreLimits g target passes → IsGreatest g target →
-    (1 ≤ length reached.actions) × (length reached.actions ≤ MOST_STEPS) ×
-    (0 < length (completions g target passes (length reached.actions)))
+reached_is_found = (g : SettingsFields) (s : StateFields) (target : ℕ) (passes : Test) (reached : IsReachedFrom g s target) →
+    IsOpen g s → AreLimits g target passes → IsGreatestFrom g s target →
+    (1 ≤ length reached.actions) × (length reached.actions ≤ measure s / 4) ×
+    (0 < length (completions g s target passes (length reached.actions)))

@@ -90,7 +90,6 @@ reaches-done p g units target s t m fair are done enough =
 
 pub are_limits : (p : Prices) (g : SettingsFields) (units : Units) (target : ℕ) → AreFair g p → AreUnits units → AreLimits g target (reaches p g units target)
 are_limits p g units target fair are = record {
-  start = λ j. reaches-first p g units target j _ refl;
   step = λ j s action within live legal goes pass.
       by-first (reaches p g units target (j + 1) s ≡ true) s (reaches-first p g units target (j + 1) s) (λ later.
       let parts = reaches-parts p g units target j (step_of g s action) (first-step g s action) pass in
@@ -111,7 +110,6 @@ are_limits p g units target fair are = record {
 -- two tests together
 pub AreLimits-both : (g : SettingsFields) (target : ℕ) (one two : Test) → AreLimits g target one → AreLimits g target two → AreLimits g target (λ j s. one j s && two j s)
 AreLimits-both g target one two h k = record {
-  start = λ j. and_by _ _ (h.start j) (k.start j);
   step = λ j s action within live legal goes pass.
       let parts = both (one j (step_of g s action)) (two j (step_of g s action)) pass in
       and_by _ _ (h.step j s action within live legal goes parts.0) (k.step j s action within live legal goes parts.1);

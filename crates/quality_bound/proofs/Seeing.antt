@@ -1,5 +1,5 @@
 -- What a seat sees of a budget, column by column.
-use Rattle.std.proofs.Common.{◌≡◌, ◌⊎◌, inl, inr, ℕ, ◌+◌, ◌/◌, ◌%◌, ◌==◌, ◌<◌, Contains, sym, ap, ◌∙◌, subst, arith}
+use Rattle.std.proofs.Common.{◌≡◌, inl, inr, ℕ, ◌+◌, ◌/◌, ◌%◌, ◌==◌, ◌<◌, Contains, sym, ap, ◌∙◌, subst, arith}
 use Rattle.plain_lemmas.proofs.Tests.{below_or_at}
 use Rattle.race_core.specs.declared.view.View.{View}
 use Rattle.seat_tables.specs.Seats.{StillSees}

@@ -1,7 +1,8 @@
 -- The limits along a macro.
-use Rattle.std.proofs.Common.{◌≡◌, ◌<◌, ◌≤◌, ◌+◌, ◌++◌, ◌∷◌, ◌∙◌, [], zero, suc, ℕ, Bool, List, Option, Some, true, false, refl, sym, ap, subst, arith, take, length, slice_get, get_or, nat_lt, true≢false, ◌||◌}
+use Rattle.std.proofs.Common.{◌≡◌, ◌<◌, ◌≤◌, ◌+◌, ◌++◌, ◌∷◌, ◌∙◌, [], zero, suc, ℕ, Bool, List, Option, Some, true, false, refl, sym, ap, subst, arith, take, length, slice_get, get_or, nat_lt, true≢false, ◌||◌, ◌⊎◌, inl, inr}
 use Rattle.step_rules.proofs.Runs.{next_legal}
-use Rattle.std.proofs.lemmas.List.{take_all}
+use Rattle.std.proofs.lemmas.Bool.{cases_lt}
+use Rattle.std.proofs.lemmas.List.{get_or_append_left, get_or_push, take_all}
 use Rattle.action_table.specs.declared.action.Action.{Action}
 use Rattle.action_table.specs.declared.action.Action.TheVariants.{BasicSynthesis}
 use Rattle.craft_state.specs.Craft.{StateFields}
@@ -11,6 +12,7 @@ use Rattle.step_rules.specs.Macro.{Completes, counted}
 use Rattle.step_rules.specs.Run.{run_of}
 use Rattle.step_rules.proofs.LegalFacts.{legal_facts}
 use Rattle.relaxed_moves.specs.Optimum.{limit_of}
+use Rattle.replay_report.specs.States.{AreStatesOf}
 use Rattle.replay_report.specs.Limits.{AreLimited, AreLimitsAlong, IsLimited}
 
 -- the number of a state
@@ -53,6 +55,33 @@ limited_by g grain m count s false test low high limited completes ran going =
 pub limited_on_way : (g : SettingsFields) (grain : ℕ) (m : List Action) (count : ℕ) (s : StateFields) → 1 ≤ count → count ≤ length m
     → AreLimited g grain m → Completes g (start_of g) m → run_of g (start_of g) (take count m) ≡ Some s → is_complete g s ≡ false → IsLimited g grain s
 limited_on_way g grain m count s = limited_by g grain m count s (nat_lt count (length m)) refl
+
+-- a state that is read
+pub state_read : (g : SettingsFields) (m : List Action) (states : List StateFields) (count : ℕ) (s : StateFields) → AreStatesOf g m states → count ≤ length m
+    → s ≡ get_or states count s → run_of g (start_of g) (take count m) ≡ Some s
+state_read g m states count s are low is = are.each count s low ∙ ap Some (sym is)
+
+-- the states after at most so many actions
+abbrev pub AreStatesTo : SettingsFields → List Action → ℕ → List StateFields → Type 0
+AreStatesTo g m most states = (count : ℕ) (d : StateFields) → count ≤ most → run_of g (start_of g) (take count m) ≡ Some (get_or states count d)
+
+pub first_state : (g : SettingsFields) (m : List Action) (state : StateFields) (states : List StateFields) → state ≡ start_of g → states ≡ state ∷ [] → AreStatesTo g m 0 states
+first_state g m state states is items count d low =
+    let none : count ≡ 0 = omega arith in
+    subst (λ n. run_of g (start_of g) (take n m) ≡ Some (get_or states n d)) (sym none)
+    (ap Some (sym (ap (λ l. get_or l 0 d) items ∙ is)))
+
+-- one more state
+pub states_more : (g : SettingsFields) (m : List Action) (place : ℕ) (states : List StateFields) (state : StateFields) → length states ≡ place + 1 → AreStatesTo g m place states
+    → run_of g (start_of g) (take (place + 1) m) ≡ Some state → AreStatesTo g m (place + 1) (states ++ state ∷ [])
+states_more g m place states state as_many before ran count d low = go (cases_lt count (place + 1))
+  where
+    go : (count < place + 1) ⊎ (place + 1 ≤ count) → run_of g (start_of g) (take count m) ≡ Some (get_or (states ++ state ∷ []) count d)
+    go (inl below) = before count d (omega arith) ∙ ap Some (sym (get_or_append_left states (state ∷ []) d count (omega (arith, as_many))))
+    go (inr above) =
+        let last : count ≡ place + 1 = omega arith in
+        subst (λ n. run_of g (start_of g) (take n m) ≡ Some (get_or (states ++ state ∷ []) n d)) (sym last)
+        (ran ∙ ap Some (sym (get_or_push states state d (place + 1) as_many)))
 
 old_number : (numbers : List ℕ) (number place : ℕ) → place < length numbers → slice_get (numbers ++ number ∷ []) place ≡ slice_get numbers place
 old_number [] number place inside = absurd (omega arith)

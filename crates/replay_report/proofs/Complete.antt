@@ -1,5 +1,5 @@
 -- A list that has a score completes the craft.
-use Rattle.std.proofs.Common.{◌≡◌, ◌≤◌, length, List, Option, Some, None, arith, refl}
+use Rattle.std.proofs.Common.{◌≡◌, ◌≢◌, ◌≤◌, length, List, Option, Some, None, arith, refl}
 use Rattle.action_table.specs.declared.action.Action.{Action}
 use Rattle.craft_state.specs.Craft.{StateFields}
 use Rattle.craft_settings.specs.Ranges.{SettingsFields, AreSettings}
@@ -19,6 +19,14 @@ completes-scored g from m score e =
       | Some last ↦ λ ran h. record { last = last; ran = ran; complete = grind arith }
     ] refl e
 
--- it has no more actions than the most
+-- a list whose actions are legal in turn has no more than the most
+pub ran_at_most : (g : SettingsFields) (m : List Action) → AreSettings g → run_of g (start_of g) m ≢ None → length m ≤ MOST_STEPS
+ran_at_most g m settings runs =
+    elim (run_of g (start_of g) m) as (λ (o : Option StateFields). run_of g (start_of g) m ≡ o → length m ≤ MOST_STEPS) [
+      | None ↦ λ stopped. absurd (runs stopped)
+      | Some last ↦ λ ran. length-macro g last m settings ran
+    ] refl
+
+-- one that completes the craft has no more either
 pub at_most : (g : SettingsFields) (m : List Action) → AreSettings g → Completes g (start_of g) m → length m ≤ MOST_STEPS
 at_most g m settings whole = length-macro g whole.last m settings whole.ran

@@ -1,19 +1,28 @@
 -- One more line of the table.
-use Rattle.std.proofs.Common.{◌≡◌, ◌<◌, ◌+◌, ◌++◌, ◌∙◌, [], ℕ, List, Option, Some, None, true, false, refl, sym, ap, take, drop, length, get_or, flat_map, append_assoc}
+use Rattle.std.proofs.Common.{◌≡◌, ◌≢◌, ◌<◌, ◌+◌, ◌++◌, ◌∙◌, [], ℕ, List, Option, None, Some, true, false, refl, sym, ap, arith, subst, take, drop, length, get_or, flat_map, append_assoc}
 use Rattle.std.specs.List.{enumerate_from}
 use Rattle.std.specs.Option.{option_map_or}
-use Rattle.std.proofs.lemmas.List.{at_drop_more}
+use Rattle.std.proofs.lemmas.List.{at_drop_more, take_all}
 use Rattle.std.proofs.lemmas.Option.{slice_get-get_or}
 use Rattle.action_table.specs.declared.action.Action.{Action}
 use Rattle.craft_state.specs.Craft.{StateFields}
 use Rattle.craft_settings.specs.Ranges.{SettingsFields}
 use Rattle.step_rules.specs.Legality.{start_of, is_legal}
-use Rattle.step_rules.specs.Macro.{Completes}
-use Rattle.step_rules.specs.Run.{run_of}
 use Rattle.step_rules.proofs.Runs.{run_of-stopped}
-use Rattle.replay_report.specs.Lines.{table_row}
-use Rattle.replay_report.specs.Report.{shown, step_line}
+use Rattle.step_rules.specs.Run.{run_of}
+use Rattle.replay_report.specs.Lines.{head_of, table_row}
+use Rattle.replay_report.specs.Report.{first_line, shown, step_line}
+use Rattle.replay_report.specs.States.{AreStatesOf}
 use Rattle.replay_report.specs.declared.style.Report.{Report}
+
+-- each next action of a list that runs is legal
+pub next_of_run : (g : SettingsFields) (state : StateFields) (actions : List Action) (place : ℕ) (d : Action) → place < length actions →
+    run_of g (start_of g) actions ≢ None → run_of g (start_of g) (take place actions) ≡ Some state → is_legal g state (get_or actions place d) ≡ true
+next_of_run g state actions place d inside runs ran =
+    elim (is_legal g state (get_or actions place d)) as (λ b. is_legal g state (get_or actions place d) ≡ b → b ≡ true) [
+      | true ↦ λ h. refl
+      | false ↦ λ h. absurd (runs (run_of-stopped g (start_of g) state actions place (get_or actions place d) ran (slice_get-get_or actions place d inside) h))
+    ] refl
 
 -- the line of the action at a place goes over from what is left to what is written
 pub table_more : (g : SettingsFields) (style : Report) (limits : List ℕ) (state : StateFields) (actions : List Action) (place : ℕ) (d : Action) (limit : Option ℕ) (text more whole : List ℕ) → place < length actions →
@@ -32,3 +41,12 @@ table_more g style limits state actions place d limit text more whole inside ran
     ∙ ap (λ (t : List ℕ). text ++ (t ++ rest)) (sym line)
     ∙ sym split
     ∙ before
+
+-- the first line is that of the last state
+pub first_line_is : (g : SettingsFields) (m : List Action) (states : List StateFields) (d : StateFields) (text : List ℕ) → AreStatesOf g m states
+    → text ≡ head_of g m (get_or states (length m) d) → text ≡ first_line g m
+first_line_is g m states d text are is =
+    let ran : run_of g (start_of g) m ≡ Some (get_or states (length m) d) =
+    subst (λ ms. run_of g (start_of g) ms ≡ Some (get_or states (length m) d)) (take_all (length m) m (omega arith)) (are.each (length m) d (omega arith))
+    in
+    is ∙ ap (λ s. option_map_or (head_of g m) s []) (sym ran)

@@ -2,5 +2,8 @@ pub mod Columns
 pub mod Holes
 pub mod Limits
 pub mod Lines
+pub mod Reasons
+pub mod Replayed
 pub mod Report
 pub mod Sample
+pub mod States

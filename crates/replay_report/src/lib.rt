@@ -9,7 +9,10 @@ ghost use Rattle.replay_report.specs.Report.{report_of};
 mod counts;
 mod lines;
 mod prefixes;
+mod reasons;
+mod replayed;
 mod sample;
+mod states;
 mod style;
 mod table;
 
@@ -19,10 +22,13 @@ use craft_settings::Settings;
 pub use lines::{head, table_line};
 use macro_text::blocks;
 pub use prefixes::limits;
+pub use reasons::reason_word;
+pub use replayed::{ended_replay, stopped_replay};
 pub use sample::{sample_none, sample_report};
+use states::states_of;
 use std::alloc::Global;
 pub use style::Report;
-use table::table_text;
+use table::{first_line, table_text};
 
 /// The text of a macro that completes the craft: the first line, the line `kept` with the sum of the counts, the macro
 /// blocks, the line `replay`, and the table with one line for each step. In the style Limits there is one limit for
@@ -41,12 +47,12 @@ pub fn report(
     ensures { IfOk result (λ text. text.items ≡ report_of g.now style.now counts.now limits.now actions.now) }
 {
     let _level = g.level;
-    let (table, last) = table_text(alloc, g, actions, limits, style)?;
-    let mut text = head(alloc, g, actions, &last)?;
+    let states = states_of(alloc, g, actions)?;
+    let mut text = first_line(alloc, g, actions, &states)?;
     text.extend_from_slice(kept_text(alloc, counts)?.as_bytes())?;
     text.extend_from_slice(&blocks(alloc, actions)?)?;
     text.extend_from_slice(b"replay\n")?;
-    text.extend_from_slice(table.as_bytes())?;
+    text.extend_from_slice(table_text(alloc, actions, &states, limits, style)?.as_bytes())?;
     text.extend_from_slice(levels_shown(alloc, counts, style)?.as_bytes())?;
     Ok(text)
 }

@@ -6,13 +6,14 @@ ghost use Rattle.step_rules.specs.Macro.{Completes, counted};
 ghost use Rattle.relaxed_moves.specs.Optimum.{limit_of};
 ghost use Rattle.replay_report.specs.Limits.{AreLimited, AreLimitsAlong, IsLimited};
 
+use crate::states::states_of;
 use action_table::{Action, WantMemory};
 use craft_settings::Settings;
 use craft_state::State;
 use quality_bound::{QualityTruth, limit};
 use seat_tables::{Seat, Shared};
 use std::alloc::Global;
-use step_rules::{counted, is_complete, start, step};
+use step_rules::{counted, is_complete};
 
 /// The limits along a macro that completes the craft: after each action the most quality that a macro can still
 /// reach, at the table's grain, and after the last the quality that counts.
@@ -36,11 +37,10 @@ pub fn limits(
     ensures of { IsOf shared.now seat.new }
     ensures still { StillSees seat.old.view seat.new.view }
 {
+    let states = states_of(alloc, g, actions)?;
     let mut limits = Vec::with_capacity(alloc, actions.len())?;
-    let mut state = start(g);
-    for &action in actions {
-        state = step(g, &state, action);
-        limits.push_reserved(limit_after(g, shared, seat, &state));
+    for place in 0..actions.len() {
+        limits.push_reserved(limit_after(g, shared, seat, &states[place + 1]));
     }
     Ok(limits)
 }

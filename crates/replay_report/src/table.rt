@@ -1,38 +1,55 @@
-ghost use Rattle.std.specs.Prelude.{◌≡◌, ◌≤◌, Some, length, string_bytes, IfOk};
-ghost use Rattle.step_rules.specs.Legality.{start_of};
-ghost use Rattle.step_rules.specs.Macro.{Completes};
-ghost use Rattle.step_rules.specs.Run.{run_of};
+ghost use Rattle.std.specs.Prelude.{◌≡◌, ◌≤◌, ◌+◌, length, string_bytes, IfOk};
+ghost use Rattle.craft_settings.specs.Ranges.{SettingsFields};
 ghost use Rattle.step_rules.specs.declared.legality.TheConstants.{MOST_STEPS};
-ghost use Rattle.replay_report.specs.Report.{table_of};
+ghost use Rattle.replay_report.specs.States.{AreStatesOf};
+ghost use Rattle.replay_report.specs.Report.{first_line, table_of};
 
-use crate::lines::push_row;
+use crate::lines::{head, push_row};
 use crate::style::{Report, shown};
-use action_table::Action;
+use action_table::{Action, WantMemory};
 use craft_settings::Settings;
 use craft_state::State;
 use std::alloc::{AllocError, Global};
-use step_rules::{start, step};
 
-// The table of a macro, one line for each step, and the state after the last.
-pub(crate) fn table_text(
+// The first line of a macro with these states.
+#[tactic(auto, using(crate::proofs::Turns::first_line_is))]
+pub(crate) fn first_line(
     alloc: Global,
     g: &Settings,
     actions: &[Action],
+    states: &[State],
+) -> Result<Vec<u8>, WantMemory>
+    requires states { AreStatesOf g.now actions.now states.now }
+    requires short { length actions.now ≤ MOST_STEPS }
+    ensures { IfOk result (λ text. text.items ≡ first_line g.now actions.now) }
+{
+    head(alloc, g, actions, &states[actions.len()])
+}
+
+// The table of a macro with these states, one line for each step.
+pub(crate) fn table_text(
+    alloc: Global,
+    actions: &[Action],
+    states: &[State],
     limits: &[u32],
     style: &Report,
-) -> Result<(String, State), AllocError>
-    requires complete { Completes g.now (start_of g.now) actions.now }
+) -> Result<String, AllocError>
+    requires as_many { length states.now ≡ length actions.now + 1 }
     requires short { length actions.now ≤ MOST_STEPS }
     requires limits { style.now ≡ Report.Limits → length limits.now ≡ length actions.now }
-    ensures table { IfOk result (λ r. string_bytes r.0 ≡ table_of g.now style.now limits.now actions.now) }
-    ensures last { IfOk result (λ r. run_of g.now (start_of g.now) actions.now ≡ Some r.1) }
+    ensures { IfOk result (λ text. (g : SettingsFields) → AreStatesOf g actions.now states.now
+        → string_bytes text ≡ table_of g style.now limits.now actions.now) }
 {
     let mut text = String::new(alloc);
-    let mut state = start(g);
     for (place, &action) in actions.iter().enumerate() {
-        state = step(g, &state, action);
         let limit = shown(style, limits, place);
-        push_row(&mut text, place as u32 + 1, action, &state, limit)?;
+        push_row(
+            &mut text,
+            place as u32 + 1,
+            action,
+            &states[place + 1],
+            limit,
+        )?;
     }
-    Ok((text, state))
+    Ok(text)
 }

@@ -41,8 +41,10 @@ pub(crate) fn best_at<V: Solver>(
     requires low { 1 ≤ base }
     requires high { base ≤ MOST_BASE }
     requires calls { V.calls solver.old < MOST_CALLS }
+    requires ready { V.ready solver.old }
     ensures best { IfOk result (λ found. MatchOption found (NothingCompletes g.now) (IsTried g.now base)) }
     ensures calls { V.calls solver.new ≡ V.calls solver.old + 1 }
+    ensures ready { V.ready solver.new }
 {
     let crafter = Settings {
         base_quality: base,
@@ -79,6 +81,7 @@ pub(crate) fn halve<V: Solver>(
     requires best { IsBest (with_base g.now MOST_BASE) most }
     requires enough { IsEnough g.now MOST_BASE }
     requires calls { V.calls solver.old ≡ 1 }
+    requires ready { V.ready solver.old }
     ensures swept { IfOk result (IsSwept g.now) }
     ensures calls { V.calls solver.new ≤ MOST_CALLS }
 {

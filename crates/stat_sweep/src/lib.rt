@@ -31,9 +31,10 @@ pub const MOST_CALLS: u32 = 14;
 /// The least base quality, from 1 to 5000, with which some macro completes the craft and has all the quality that
 /// counts. The base quality of the settings themselves doesn't matter.
 ///
-/// The solver hasn't been asked before. It is asked at most 14 times, also where memory is refused.
+/// The solver is ready, and hasn't been asked before. It is asked at most 14 times, also where memory is refused.
 pub fn sweep<V: Solver>(alloc: Global, g: &Settings, solver: &mut V) -> Result<Swept, WantMemory>
-    requires { V.calls solver.old ≡ 0 }
+    requires calls { V.calls solver.old ≡ 0 }
+    requires ready { V.ready solver.old }
     ensures swept { IfOk result (IsSwept g.now) }
     ensures nothing { IfOk result (λ s. IsTrue (is_nothing s) ↔ NothingCompletes g.now) }
     ensures short { IfOk result (λ s. IsTrue (is_short s) ↔ FallsShort g.now) }

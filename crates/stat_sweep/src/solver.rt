@@ -1,4 +1,4 @@
-ghost use Rattle.std.specs.Prelude.{ℕ, ◌≡◌, ◌<◌, ◌+◌, IfOk, MatchOption};
+ghost use Rattle.std.specs.Prelude.{ℕ, ◌≡◌, ◌<◌, ◌+◌, IfOk, MatchOption, ⊤};
 ghost use Rattle.macro_order.specs.Order.{IsBest, NothingCompletes};
 
 use crate::MOST_CALLS;
@@ -11,10 +11,15 @@ pub trait Solver {
     /// How often it was asked.
     ghost calls: { Self → ℕ };
 
+    /// What it needs to answer, and keeps.
+    ghost ready: { Self → Type 0 } = { λ _. ⊤ };
+
     /// The best macro, and None where no legal macro completes the craft. Refused for memory it counts the call too.
     /// It has been asked fewer than 14 times before.
     fn solve(&mut self, alloc: Global, g: &Settings) -> Result<Option<Vec<Action>>, WantMemory>
-        requires { calls self.old < MOST_CALLS }
+        requires calls { calls self.old < MOST_CALLS }
+        requires ready { ready self.old }
         ensures best { IfOk result (λ found. MatchOption found (NothingCompletes g.now) (λ m. IsBest g.now m.items)) }
-        ensures calls { calls self.new ≡ calls self.old + 1 };
+        ensures calls { calls self.new ≡ calls self.old + 1 }
+        ensures ready { ready self.new };
 }

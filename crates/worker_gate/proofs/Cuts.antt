@@ -3,7 +3,7 @@ use Rattle.std.proofs.Common.{◌≡◌, ℕ, ◌+◌, ◌*◌, ◌<◌, ◌≤�
 use Rattle.std.proofs.Math.Nat.{mul-div_cancel_left, div-mul-le_self, mul-le-mul_right}
 use Rattle.std.proofs.lemmas.Nat.{le-div}
 use Rattle.std.proofs.lemmas.Bool.{cases_lt}
-use Rattle.worker_gate.specs.Cut.{cut, IsIn, CutsOnce}
+use Rattle.worker_gate.specs.Cut.{cut, IsInRange, CutsOnce}
 
 pub cut-whole : (len workers : ℕ) → 0 < workers → cut len workers workers ≡ len
 cut-whole len workers some = mul-div_cancel_left len some
@@ -18,17 +18,17 @@ cut-rises len workers j k some le =
     le-div (cut len workers j) (k * len) workers some (omega arith)
 
 -- each place before the end of the range before k is in a range before k
-holds : (len workers i k : ℕ) → 0 < workers → i < cut len workers k → (j : ℕ) × (j < k) × IsIn len workers j i
+holds : (len workers i k : ℕ) → 0 < workers → i < cut len workers k → (j : ℕ) × (j < k) × IsInRange len workers j i
 holds len workers i zero some lt = let none = cut-zero len workers some in absurd (omega arith)
 holds len workers i (suc k) some lt = go (cases_lt i (cut len workers k)) (holds len workers i k some)
   where
-    go : (i < cut len workers k) ⊎ (cut len workers k ≤ i) → (i < cut len workers k → (j : ℕ) × (j < k) × IsIn len workers j i)
-        → (j : ℕ) × (j < suc k) × IsIn len workers j i
+    go : (i < cut len workers k) ⊎ (cut len workers k ≤ i) → (i < cut len workers k → (j : ℕ) × (j < k) × IsInRange len workers j i)
+        → (j : ℕ) × (j < suc k) × IsInRange len workers j i
     go (inl below) rest = let r = rest below in (r.0, omega arith, r.2)
     go (inr above) rest = (k, omega arith, (above, let same : suc k ≡ k + 1 = omega arith in subst (λ m. i < cut len workers m) same lt))
 
 -- a place in the range of k is in no earlier range
-not_before : (len workers j k i : ℕ) → 0 < workers → IsIn len workers j i → IsIn len workers k i → k ≤ j
+not_before : (len workers j k i : ℕ) → 0 < workers → IsInRange len workers j i → IsInRange len workers k i → k ≤ j
 not_before len workers j k i some in_j in_k = go (cases_lt j k)
   where
     go : (j < k) ⊎ (k ≤ j) → k ≤ j

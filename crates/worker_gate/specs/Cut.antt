@@ -6,13 +6,13 @@ abbrev pub cut : ℕ → ℕ → ℕ → ℕ
 cut len workers k = k * len / workers
 
 -- place i is in the range of worker k
-abbrev pub IsIn : ℕ → ℕ → ℕ → ℕ → Type 0
-IsIn len workers k i = (cut len workers k ≤ i) × (i < cut len workers (k + 1))
+abbrev pub IsInRange : ℕ → ℕ → ℕ → ℕ → Type 0
+IsInRange len workers k i = (cut len workers k ≤ i) × (i < cut len workers (k + 1))
 
 -- the ranges begin at 0, end at the length, and hold each place in between once
 pub record CutsOnce (len workers : ℕ) : Type 0 where
   pub first : cut len workers 0 ≡ 0
   pub last : cut len workers workers ≡ len
   pub ordered : (k : ℕ) → cut len workers k ≤ cut len workers (k + 1)
-  pub covered : (i : ℕ) → i < len → (k : ℕ) × (k < workers) × IsIn len workers k i
-  pub once : (j k i : ℕ) → IsIn len workers j i → IsIn len workers k i → j ≡ k
+  pub covered : (i : ℕ) → i < len → (k : ℕ) × (k < workers) × IsInRange len workers k i
+  pub once : (j k i : ℕ) → IsInRange len workers j i → IsInRange len workers k i → j ≡ k

@@ -1,4 +1,4 @@
-// Workers side by side, and the range of each.
+//! Workers side by side, and the range of each.
 #![tactic(auto)]
 
 ghost use Rattle.std.specs.Prelude.{◌≡◌, ℕ, ◌+◌, ◌<◌, ◌≤◌, ⊤, length};
@@ -6,11 +6,13 @@ ghost use Rattle.std.specs.Fork.{ChangesEach, AcceptsAt, ChangesAt};
 ghost use Rattle.worker_gate.specs.Behind.{AcceptsBehind};
 ghost use Rattle.worker_gate.specs.Cut.{cut, CutsOnce};
 
-use std::thread;
-use std::thread::Threads;
-
+mod crew;
 #[cfg(test)]
 mod tests;
+
+pub use crew::Crew;
+use std::thread;
+use std::thread::Threads;
 
 /// What each worker passes before its work. A gate may hold a worker back, so that a test can
 /// force an order; it changes nothing that the work can see.

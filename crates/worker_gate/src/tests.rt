@@ -1,7 +1,8 @@
 ghost use Rattle.std.specs.Prelude.{◌≡◌, ℕ, ◌+◌, ◌-◌, ◌<◌, ◌≤◌, length, slice_index, slice_index_or, All};
 ghost use Rattle.worker_gate.specs.Cut.{cut};
 
-use crate::{FreeGate, each, range_of};
+use crate::{Crew, FreeGate, each, range_of};
+use std::test::Fail;
 use std::thread::Threads;
 
 #[test]
@@ -49,7 +50,8 @@ fn read_all(rt: &(impl Threads + Sync), readers: &mut [Reader], len: usize)
     requires high { length readers.old ≤ 64 }
     requires tables { All (λ s. s.table ≡ 7) readers.old }
     ensures stays { All (λ s. s.table ≡ 7) readers.new }
-    ensures seen { (i : ℕ) (d : _) → i < length readers.old → (slice_index_or readers.new i d).seen ≡ cut len (length readers.old) (i + 1) - cut len (length readers.old) i }
+    ensures seen { (i : ℕ) (d : _) → i < length readers.old →
+        (slice_index_or readers.new i d).seen ≡ cut len (length readers.old) (i + 1) - cut len (length readers.old) i }
 {
     let workers = readers.len() as u32;
     each(rt, readers, &FreeGate, |k, reader: &mut Reader| {
@@ -63,4 +65,31 @@ fn reads_each_range(rt: HostRuntime) {
     let mut readers = [Reader { table: 7, seen: 0 }, Reader { table: 7, seen: 0 }];
     read_all(&rt, &mut readers, 11);
     assert!(rt; readers[0].seen == 5 && readers[1].seen == 6);
+}
+
+// The same by a crew.
+fn read_crew<R: Threads + Sync>(crew: &mut Crew<'_, R, FreeGate, Reader>, len: usize)
+    requires tables { All (λ s. s.table ≡ 7) crew.old.workers }
+    ensures as_many { length crew.new.workers ≡ length crew.old.workers }
+    ensures seen { (i : ℕ) (d : _) → i < length crew.old.workers →
+        (slice_index_or crew.new.workers i d).seen ≡ cut len (length crew.old.workers) (i + 1) - cut len (length crew.old.workers) i }
+{
+    let count = crew.len();
+    crew.each(|k, reader: &mut Reader| {
+        let (from, to) = range_of(len, count, k);
+        read_range(reader, from, to);
+    });
+}
+
+#[test]
+fn a_crew_reads_each_range(rt: HostRuntime) -> Result<(), Fail> {
+    let readers = [Reader { table: 7, seen: 0 }, Reader { table: 7, seen: 0 }];
+    let mut crew = Crew::new(&rt, &FreeGate, Vec::from_array(rt.alloc(), readers)?);
+    read_crew(&mut crew, 11);
+    assert_eq!(rt; crew.len(), 2);
+    assert_eq!(rt; crew.workers()[0].seen, 5);
+    assert_eq!(rt; range_of(12, crew.len(), 1), (6, 12));
+    let readers = crew.into_workers();
+    assert!(rt; readers[0].seen == 5 && readers[1].seen == 6);
+    Ok(())
 }

@@ -110,7 +110,7 @@ returns-in-Some-clause-seen g c = λ d.
 
 pub loop-n-preserved : goal.loop-n-preserved
 loop-n-preserved g c =
-    let here : completions c.args.g.now c.args.target (reaches c.args.g.now c.args.grain c.args.target) c.loop-n.n ≡ [] = rw c.in_default.is at c.in_ok-found.ensures.found in
+    let here : completions c.args.g.now (start_of c.args.g.now) c.args.target (reaches c.args.g.now c.args.grain c.args.target) c.loop-n.n ≡ [] = rw c.in_default.is at c.in_ok-found.ensures.found in
     record {
       of = c.in_ok-found.ensures.of;
       still = all_still-trans _ _ _ c.loop-n.invariant.still c.in_ok-found.ensures.still;

@@ -4,8 +4,8 @@ use Rattle.prefix_fronts.proofs.Dominated.{never-dominated, best-survives}
 use Rattle.prefix_fronts.proofs.dominated_law.Goals as goal
 
 pub returns-clause-none : goal.returns-clause-none
-returns-clause-none c g m k p q settings best h cut =
-    never-dominated g m k p q settings best (Contains-Among _ p h.first) (Contains-Among _ q h.second) (sym cut) h.over
+returns-clause-none c g s m k p q is_open best h cut =
+    never-dominated g s m k p q is_open best (Contains-Among _ p h.first) (Contains-Among _ q h.second) (sym cut) h.over
 
 pub returns-clause-each : goal.returns-clause-each
-returns-clause-each c g m k settings best below = best-survives g m k settings best below
+returns-clause-each c g s m k is_open best below = best-survives g s m k is_open best below

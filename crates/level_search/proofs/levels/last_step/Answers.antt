@@ -6,7 +6,7 @@ use Rattle.level_search.specs.declared.links.Link.{Link}
 use Rattle.level_search.specs.Nodes.{IsNode, Climbs, actions_to, link_of, nodes_at, nodes_by, test_of}
 use Rattle.level_search.proofs.Crafts.{aim-settings, aim-grain}
 use Rattle.level_search.proofs.Leading.{level-nodes}
-use Rattle.level_search.proofs.Reached.{are_limits}
+use Rattle.level_search.proofs.Reached.{lets_start}
 use Rattle.level_search.proofs.Search.{search-none, search-climb, search-found}
 use Rattle.level_search.proofs.Stacks.{items_of, links-count, links-at, links-whole, counts-whole}
 use Rattle.level_search.proofs.levels.last_step.Goals as goal
@@ -16,7 +16,7 @@ endings-requires c =
     let aim = c.args.aim.now in
     let g = aim.g.now in
     let n = c.args.n in
-    let limits = are_limits g aim.grain aim.target (aim-grain aim) in
+    let limits = lets_start g aim.grain aim.target (aim-grain aim) in
     let last = c.deref.ensures.value ∙ c.requires.survivors.last in
     subst (λ (l : List Node). All (IsNode g) l) (sym last) (level-nodes g aim.target (test_of aim) n (n - 1) (aim-settings aim) limits (omega (arith, c.requires.some)) c.requires.most)
 
@@ -25,7 +25,7 @@ returns-in-None c =
     let aim = c.args.aim.now in
     let g = aim.g.now in
     let n = c.args.n in
-    let limits = are_limits g aim.grain aim.target (aim-grain aim) in
+    let limits = lets_start g aim.grain aim.target (aim-grain aim) in
     let last = c.deref.ensures.value ∙ c.requires.survivors.last in
     search-none g aim.target (test_of aim) n (n - 1) c.deref-2.result.now (aim-settings aim) limits (omega (arith, c.requires.some))
     (c.deref-2.ensures.value ∙ c.in_ok-ends.ensures ∙ ap (nodes_by g (finishes g aim.target)) last) (sym c.soonest.ensures ∙ c.in-None.is)
@@ -44,7 +44,7 @@ climb-requires-clause-climbs c =
     let aim = c.args.aim.now in
     let g = aim.g.now in
     let n = c.args.n in
-    let limits = are_limits g aim.grain aim.target (aim-grain aim) in
+    let limits = lets_start g aim.grain aim.target (aim-grain aim) in
     let last = c.deref.ensures.value ∙ c.requires.survivors.last in
     let ways = links-whole g (test_of aim) n c.args.survivors.links.items c.push.new.self.items c.args.survivors.last.items c.args.survivors.counts.items c.in_ok-links_of-in-Some.field-0 c.requires.some
     c.requires.survivors (c.in_ok-links_of-in-Some.ensures ∙ ap (map link_of) c.deref-in-Some.ensures.value) c.in_ok-push-in-Some.ensures.items in
@@ -59,7 +59,7 @@ returns c =
     let aim = c.args.aim.now in
     let g = aim.g.now in
     let n = c.args.n in
-    let limits = are_limits g aim.grain aim.target (aim-grain aim) in
+    let limits = lets_start g aim.grain aim.target (aim-grain aim) in
     let last = c.deref.ensures.value ∙ c.requires.survivors.last in
     let ways = links-whole g (test_of aim) n c.args.survivors.links.items c.push.new.self.items c.args.survivors.last.items c.args.survivors.counts.items c.in_ok-links_of-in-Some.field-0 c.requires.some
     c.requires.survivors (c.in_ok-links_of-in-Some.ensures ∙ ap (map link_of) c.deref-in-Some.ensures.value) c.in_ok-push-in-Some.ensures.items in

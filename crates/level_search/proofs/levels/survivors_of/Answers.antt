@@ -8,7 +8,7 @@ use Rattle.level_search.specs.Searching.{StillSearches}
 use Rattle.level_search.proofs.Crafts.{aim-settings, aim-grain}
 use Rattle.level_search.proofs.Joined.{all_still-refl, all_still-trans}
 use Rattle.level_search.proofs.Leading.{level-nodes}
-use Rattle.level_search.proofs.Reached.{are_limits}
+use Rattle.level_search.proofs.Reached.{lets_start}
 use Rattle.level_search.proofs.Stacks.{survivors-start, survivors-more}
 use Rattle.level_search.proofs.levels.survivors_of.Goals as goal
 
@@ -32,7 +32,7 @@ pub next_level-requires-clause-nodes : goal.next_level-requires-clause-nodes
 next_level-requires-clause-nodes g c κs within =
     let aim = c.args.aim.now in
     let craft = aim.g.now in
-    let limits = are_limits craft aim.grain aim.target (aim-grain aim) in
+    let limits = lets_start craft aim.grain aim.target (aim-grain aim) in
     let below : c.loop-k.k - 1 < c.args.n = omega (arith, c.loop-k-test.true) in
     subst (λ (l : List Node). All (IsNode craft) l) (sym (c.deref.ensures.value ∙ c.loop-k.invariant.survivors.last))
     (level-nodes craft aim.target (test_of aim) c.args.n (c.loop-k.k - 1) (aim-settings aim) limits below c.requires.most)

@@ -20,6 +20,7 @@ loop-range-preserved-then-tried g c =
     record {
       range = lower_half c.args.g.now r middle tried c.loop-range.invariant.range (omega arith) (omega arith) is c.if-tried.true;
       calls = suffices-next _ _ (r.high - r.low) (middle - r.low) c.loop-range.invariant.calls wide c.best_at.ensures.calls (omega arith);
+      ready = c.best_at.ensures.ready;
     }
 
 pub loop-range-preserved-else-tried : goal.loop-range-preserved-else-tried
@@ -32,6 +33,7 @@ loop-range-preserved-else-tried g c =
     record {
       range = upper_half c.args.g.now r middle tried c.loop-range.invariant.range (omega arith) (omega arith) is c.if-tried.false;
       calls = suffices-next _ _ (r.high - r.low) (r.high - middle) c.loop-range.invariant.calls wide c.best_at.ensures.calls (omega arith);
+      ready = c.best_at.ensures.ready;
     }
 
 pub loop-range-preserved : goal.loop-range-preserved
@@ -44,6 +46,7 @@ loop-range-preserved g c =
     record {
       range = upper_half c.args.g.now r middle tried c.loop-range.invariant.range (omega arith) (omega arith) is c.if-tried.false;
       calls = suffices-next _ _ (r.high - r.low) (r.high - middle) c.loop-range.invariant.calls wide c.best_at.ensures.calls (omega arith);
+      ready = c.best_at.ensures.ready;
     }
 
 pub returns-clause-swept : goal.returns-clause-swept

@@ -4,7 +4,11 @@ use Rattle.stat_sweep.proofs.Halves.{IsRange, SufficesAfter}
 use Rattle.stat_sweep.proofs.halving.halve.Given as goal
 
 abbrev pub invariant-loop-range : goal.invariant-loop-range
-invariant-loop-range g l = record { range : IsRange l.g l.range; calls : SufficesAfter (g.V.Solver.calls l.solver) (l.range.high - l.range.low) }
+invariant-loop-range g l = record {
+  range : IsRange l.g l.range;
+  calls : SufficesAfter (g.V.Solver.calls l.solver) (l.range.high - l.range.low);
+  ready : g.V.Solver.ready l.solver;
+}
 
 abbrev pub decreases-loop-range : goal.decreases-loop-range
 decreases-loop-range g l = l.range.high - l.range.low

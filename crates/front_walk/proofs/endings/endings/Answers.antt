@@ -1,0 +1,20 @@
+use Rattle.std.proofs.Common.{◌∙◌, sym, refl, ◌<◌, [], length, arith}
+use Rattle.prefix_fronts.specs.Prefix.{finishes}
+use Rattle.front_walk.proofs.Collected.{spread_more, nodes_upto-all, nodes_upto-none}
+use Rattle.front_walk.proofs.endings.endings.Goals as goal
+
+pub loop-place-init : goal.loop-place-init
+loop-place-init g c =
+    let w = c.args.walk.now in
+    c.new-found.ensures.items ∙ sym (nodes_upto-none w.g.now (finishes w.g.now w.target) c.args.nodes.now 0 refl)
+
+pub loop-place-preserved : goal.loop-place-preserved
+loop-place-preserved g c =
+    let w = c.args.walk.now in
+    let inside : c.loop-place.place < length c.args.nodes.now = omega arith in
+    spread_more w.g.now (finishes w.g.now w.target) c.args.nodes.now c.loop-place.place c.index-nodes-place.result [] c.loop-place.found.items c.push_endings.new.found.items inside c.index-nodes-place.is c.loop-place.invariant c.in_ok-push_endings.ensures
+
+pub returns : goal.returns
+returns g c =
+    let w = c.args.walk.now in
+    c.loop-place.invariant ∙ nodes_upto-all w.g.now (finishes w.g.now w.target) c.args.nodes.now c.loop-place.place (omega arith)

@@ -1,0 +1,174 @@
+// The nodes of a level, found by workers side by side.
+ghost use Rattle.std.specs.Prelude.{◌≡◌, ◌≤◌, ◌<◌, ◌+◌, ℕ, IfOk, IsOk, All, length, slice_index_or};
+ghost use Rattle.std.specs.List.{flat_map};
+ghost use Rattle.worker_gate.specs.Cut.{cut};
+ghost use Rattle.front_walk.specs.Asking.{AllMayAsk, AllStillAsk, HasFound, nodes_in};
+ghost use Rattle.front_walk.specs.Nodes.{goes_and_passes, nodes_by, nodes_upto, roots, roots_upto};
+
+use crate::children::children_in;
+use crate::state_test::StateTest;
+use crate::walk::{Stage, Walk};
+use crate::walker::Walker;
+use action_table::{Action, WantMemory};
+use pareto_front::Node;
+use std::alloc::Global;
+use std::thread::Threads;
+use worker_gate::{Crew, Gate, range_of};
+
+/// The children of the nodes of a level that go on and pass, in order.
+pub(crate) fn expand<T: StateTest, R: Threads + Sync, G: Gate>(
+    crew: &mut Crew<'_, R, G, Walker<T::Asker>>,
+    alloc: Global,
+    stage: &Stage<'_, T>,
+) -> Result<Vec<Node>, WantMemory>
+    requires askers { AllMayAsk (T.may_ask stage.now.walk.now.test.now) crew.old.workers }
+    ensures askers { AllMayAsk (T.may_ask stage.now.walk.now.test.now) crew.new.workers }
+    ensures still { AllStillAsk T.still_asks crew.old.workers crew.new.workers }
+    ensures children { let w = stage.now.walk.now in
+        IfOk result (λ v. v.items ≡ nodes_by w.g.now (goes_and_passes w.g.now (T.passes w.test.now) stage.now.left) stage.now.nodes.now) }
+{
+    expand_ranges(crew, alloc, stage);
+    gather(alloc, crew.workers())
+}
+
+// Each worker expands its range of the level.
+fn expand_ranges<T: StateTest, R: Threads + Sync, G: Gate>(
+    crew: &mut Crew<'_, R, G, Walker<T::Asker>>,
+    alloc: Global,
+    stage: &Stage<'_, T>,
+)
+    requires askers { AllMayAsk (T.may_ask stage.now.walk.now.test.now) crew.old.workers }
+    ensures as_many { length crew.new.workers ≡ length crew.old.workers }
+    ensures found { let w = stage.now.walk.now in let test = goes_and_passes w.g.now (T.passes w.test.now) stage.now.left in
+        let len = length stage.now.nodes.now in let count = length crew.old.workers in
+        (k : ℕ) (d : _) → k < count → HasFound (T.may_ask w.test.now) T.still_asks
+        (nodes_upto w.g.now test stage.now.nodes.now (cut len count k))
+        (nodes_upto w.g.now test stage.now.nodes.now (cut len count (k + 1)))
+        (slice_index_or crew.old.workers k d) (slice_index_or crew.new.workers k d) }
+{
+    let count = crew.len();
+    crew.each(
+        |k, walker: &mut Walker<T::Asker>|
+            requires { (1 ≤ count) × (count ≤ 64) × (k < count) × T.may_ask stage.now.walk.now.test.now walker.now.asker }
+        { expand_range(alloc, stage, count, k, walker) },
+    );
+}
+
+// Worker `k` of so many expands its range of the level.
+fn expand_range<T: StateTest>(
+    alloc: Global,
+    stage: &Stage<'_, T>,
+    count: u32,
+    k: u32,
+    walker: &mut Walker<T::Asker>,
+)
+    requires low { 1 ≤ count }
+    requires high { count ≤ 64 }
+    requires place { k < count }
+    requires asker { T.may_ask stage.now.walk.now.test.now walker.old.asker }
+    ensures { let w = stage.now.walk.now in let test = goes_and_passes w.g.now (T.passes w.test.now) stage.now.left in
+        let len = length stage.now.nodes.now in HasFound (T.may_ask w.test.now) T.still_asks
+        (nodes_upto w.g.now test stage.now.nodes.now (cut len count k))
+        (nodes_upto w.g.now test stage.now.nodes.now (cut len count (k + 1)))
+        walker.old walker.new }
+{
+    let (from, to) = range_of(stage.nodes.len(), count, k);
+    walker.found = children_in(alloc, stage, from, to, &mut walker.asker);
+}
+
+/// No action yet, where the state that is walked from passes.
+pub(crate) fn first_level<T: StateTest, R: Threads + Sync, G: Gate>(
+    crew: &mut Crew<'_, R, G, Walker<T::Asker>>,
+    alloc: Global,
+    walk: &Walk<'_, T>,
+    n: u32,
+) -> Result<Vec<Node>, WantMemory>
+    requires askers { AllMayAsk (T.may_ask walk.now.test.now) crew.old.workers }
+    ensures askers { AllMayAsk (T.may_ask walk.now.test.now) crew.new.workers }
+    ensures still { AllStillAsk T.still_asks crew.old.workers crew.new.workers }
+    ensures nodes { IfOk result (λ v. v.items ≡ roots walk.now.from.now (T.passes walk.now.test.now) n) }
+{
+    ask_first(crew, alloc, walk, n);
+    gather(alloc, crew.workers())
+}
+
+// The first worker asks for the state that is walked from.
+fn ask_first<T: StateTest, R: Threads + Sync, G: Gate>(
+    crew: &mut Crew<'_, R, G, Walker<T::Asker>>,
+    alloc: Global,
+    walk: &Walk<'_, T>,
+    n: u32,
+)
+    requires askers { AllMayAsk (T.may_ask walk.now.test.now) crew.old.workers }
+    ensures as_many { length crew.new.workers ≡ length crew.old.workers }
+    ensures found { let w = walk.now in
+        (k : ℕ) (d : _) → k < length crew.old.workers → HasFound (T.may_ask w.test.now) T.still_asks
+        (roots_upto w.from.now (T.passes w.test.now) n k) (roots_upto w.from.now (T.passes w.test.now) n (k + 1))
+        (slice_index_or crew.old.workers k d) (slice_index_or crew.new.workers k d) }
+{
+    crew.each(
+        |k, walker: &mut Walker<T::Asker>|
+            requires { T.may_ask walk.now.test.now walker.now.asker }
+        { ask_root(alloc, walk, n, k, walker) },
+    );
+}
+
+// Worker 0 finds the state that is walked from, where it passes, and each other worker nothing.
+#[tactic(auto, unfolding(crate::specs::Nodes::roots_upto))]
+fn ask_root<T: StateTest>(
+    alloc: Global,
+    walk: &Walk<'_, T>,
+    n: u32,
+    k: u32,
+    walker: &mut Walker<T::Asker>,
+)
+    requires asker { T.may_ask walk.now.test.now walker.old.asker }
+    ensures { let w = walk.now in HasFound (T.may_ask w.test.now) T.still_asks
+        (roots_upto w.from.now (T.passes w.test.now) n k) (roots_upto w.from.now (T.passes w.test.now) n (k + 1)) walker.old walker.new }
+{
+    walker.found = if k == 0 {
+        root(alloc, walk, n, &mut walker.asker)
+    } else {
+        Ok(Vec::new(alloc))
+    };
+}
+
+// The state that is walked from, where it passes.
+#[tactic(auto, unfolding(crate::specs::Nodes::roots))]
+fn root<T: StateTest>(
+    alloc: Global,
+    walk: &Walk<'_, T>,
+    n: u32,
+    asker: &mut T::Asker,
+) -> Result<Vec<Node>, WantMemory>
+    requires asker { T.may_ask walk.now.test.now asker.old }
+    ensures asker { T.may_ask walk.now.test.now asker.new }
+    ensures still { T.still_asks asker.old asker.new }
+    ensures nodes { IfOk result (λ v. v.items ≡ roots walk.now.from.now (T.passes walk.now.test.now) n) }
+{
+    let mut nodes = Vec::new(alloc);
+    if walk.test.passes(asker, n, walk.from) {
+        nodes.push(Node {
+            state: *walk.from,
+            seconds: 0,
+            parent: 0,
+            action: Action::BasicSynthesis,
+        })?;
+    }
+    Ok(nodes)
+}
+
+// What the workers found, one after another.
+fn gather<A>(alloc: Global, walkers: &[Walker<A>]) -> Result<Vec<Node>, WantMemory>
+    ensures nodes { IfOk result (λ v. v.items ≡ flat_map (λ w. nodes_in w.found) walkers.now) }
+    ensures whole { IfOk result (λ _. All (λ w. IsOk w.found) walkers.now) }
+{
+    let mut nodes = Vec::new(alloc);
+    for walker in walkers {
+        match &walker.found {
+            Ok(found) => nodes.extend_from_slice(found)?,
+            Err(_) => return Err(WantMemory),
+        }
+    }
+    Ok(nodes)
+}

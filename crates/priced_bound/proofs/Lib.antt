@@ -1,0 +1,6 @@
+pub mod Asked
+pub mod Counting
+pub mod Cutting
+pub mod Lists
+pub mod Sighted
+pub mod Told

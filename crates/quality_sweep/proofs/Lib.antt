@@ -1,0 +1,6 @@
+pub mod Completing
+pub mod Exploring
+pub mod Placing
+pub mod Putting
+pub mod Turning
+pub mod Choosing
