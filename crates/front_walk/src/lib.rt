@@ -13,6 +13,8 @@ mod expanding;
 mod levels;
 mod links;
 mod state_test;
+#[cfg(test)]
+mod tests;
 mod walk;
 mod walker;
 

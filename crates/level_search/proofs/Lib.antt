@@ -1,9 +1,5 @@
 pub mod Crafts
-pub mod Joined
-pub mod Leading
 pub mod Reached
 pub mod Search
-pub mod Stacks
-pub mod Steps
-pub mod Tied
+pub mod Stills
 pub mod Ways

@@ -6,9 +6,10 @@ use Rattle.craft_settings.specs.Ranges.{SettingsFields}
 use Rattle.step_rules.specs.Legality.{start_of}
 use Rattle.step_rules.specs.Step.{step_of}
 use Rattle.relaxed_moves.specs.Optimum.{option_le, limit_of, within_of}
-use Rattle.prefix_fronts.specs.Prefix.{Test, AreLimits}
+use Rattle.relaxed_moves.specs.Budget.{potential_of, start_potential_of}
+use Rattle.prefix_fronts.specs.Prefix.{AreLimits}
 use Rattle.admissible.proofs.Limits.{Later, limit-law, within-law, last-limit, last-within}
-use Rattle.admissible.proofs.Reached.{first-step, limit-not_less, within-not_less}
+use Rattle.admissible.proofs.Reached.{first-step, limit-not_less, potential-start, within-not_less}
 use Rattle.level_search.specs.Reaching.{is_enough, reaches}
 
 le_trans : (a b c : ℕ) → nat_le a b ≡ true → b ≤ c → nat_le a c ≡ true
@@ -78,13 +79,6 @@ are_limits g grain target low = record {
       (enough-some target _ _ enough (last-limit g grain s action record { step = record { within = within; legal = legal; done = done }; first = later; low = low })));
 }
 
--- the test keeps what the fronts ask, and lets the start through
-pub record LetsStart (g : SettingsFields) (target : ℕ) (passes : Test) : Type 0 where
-  pub limits : AreLimits g target passes
-  pub start : (j : ℕ) → passes j (start_of g) ≡ true
-
-pub lets_start : (g : SettingsFields) (grain target : ℕ) → 1 ≤ grain → LetsStart g target (reaches g grain target)
-lets_start g grain target low = record {
-  limits = are_limits g grain target low;
-  start = λ j. reaches-first g grain target j _ refl;
-}
+-- the start may be asked for
+pub start_allowed : (g : SettingsFields) → nat_le (potential_of g (start_of g)) (start_potential_of g) ≡ true
+start_allowed g = le_test _ _ (omega (arith, potential-start g))

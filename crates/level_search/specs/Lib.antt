@@ -1,4 +1,4 @@
 pub mod Answer
-pub mod Nodes
+pub mod Laws
 pub mod Reaching
 pub mod Searching

@@ -1,10 +1,10 @@
 -- Which states may still lead to a quality, as the bounds tell it.
-use Rattle.std.specs.Prelude.{ℕ, Bool, false, List, ◌&&◌, ◌||◌, nat_le, Option, Some, None, map, length}
-use Rattle.std.specs.List.{range_with_len}
+use Rattle.std.specs.Prelude.{ℕ, Bool, false, List, ◌&&◌, ◌||◌, nat_le, Option, Some, None}
 use Rattle.craft_settings.specs.Ranges.{SettingsFields}
 use Rattle.step_rules.specs.Legality.{start_of}
 use Rattle.relaxed_moves.specs.Optimum.{limit_of, within_of}
-use Rattle.prefix_fronts.specs.Prefix.{Test, front}
+use Rattle.prefix_fronts.specs.Prefix.{Test}
+use Rattle.front_walk.specs.Walking.{sizes_below}
 
 -- a bound that isn't below the target; None is below every number
 abbrev pub is_enough : ℕ → Option ℕ → Bool
@@ -19,4 +19,4 @@ reaches g grain target left s =
 
 -- how many survivors there are of each length below n
 abbrev pub front_sizes : SettingsFields → (grain target n : ℕ) → List ℕ
-front_sizes g grain target n = map (λ k. length (front g (start_of g) (reaches g grain target) n k)) (range_with_len 0 n)
+front_sizes g grain target n = sizes_below g (start_of g) (reaches g grain target) n

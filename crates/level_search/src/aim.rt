@@ -1,5 +1,5 @@
 // What a search looks for.
-ghost use Rattle.std.specs.Prelude.{◌≡◌, ◌≤◌, false};
+ghost use Rattle.std.specs.Prelude.{◌≡◌, ◌≤◌};
 ghost use Rattle.step_rules.specs.Legality.{IsWithin};
 ghost use Rattle.relaxed_moves.specs.Budget.{potential_of, start_potential_of};
 ghost use Rattle.relaxed_moves.specs.Scales.{IsScale};
@@ -9,6 +9,7 @@ ghost use Rattle.level_search.specs.Searching.{IsSearcherOf, StillSearches, HasS
 use crate::searcher::Searcher;
 use craft_settings::Settings;
 use craft_state::State;
+use front_walk::StateTest;
 use quality_bound::{QualityTruth, limit_by};
 use relaxed_moves::{MOST_MOVES, Scale, potential, relax};
 use seat_tables::Shared;
@@ -31,21 +32,48 @@ pub(crate) struct Aim<'a> {
     ghost scales: { IsScale g.now grain scale },
 }
 
+impl StateTest for Aim<'_> {
+    ghost use Rattle.std.specs.Prelude.{nat_le};
+    ghost use Rattle.level_search.specs.Laws.{potential_stays, same_searches, later_searches};
+
+    type Asker = Searcher;
+
+    ghost craft = { λ t. t.g.now };
+
+    ghost passes = { λ t. reaches t.g.now t.grain t.target };
+
+    ghost allows = { λ t s. nat_le (potential_of t.g.now s) (start_potential_of t.g.now) };
+
+    ghost may_ask = { λ t. IsSearcherOf t.quality.now t.steps.now };
+
+    ghost still_asks = { StillSearches };
+
+    fn passes(&self, asker: &mut Searcher, left: u32, s: &State) -> bool {
+        self.reaches(asker, left, s)
+    }
+
+    ghost goes_on_allowed = { λ t. potential_stays t.g.now };
+
+    ghost same_asks = { same_searches };
+
+    ghost later_asks = { later_searches };
+}
+
 impl Aim<'_> {
-    /// Whether a state after the first step may still lead to the target with so many actions left. The bound by
-    /// steps is asked first, since its table is small.
+    // Whether a state may still lead to the target with so many actions left: before the first step always. The bound by
+    // steps is asked first, since its table is small.
     #[tactic(auto, unfolding(crate::specs::Reaching::reaches))]
-    pub(crate) fn passes(&self, searcher: &mut Searcher, left: u32, s: &State) -> bool
+    fn reaches(&self, searcher: &mut Searcher, left: u32, s: &State) -> bool
         requires of { IsSearcherOf self.now.quality.now self.now.steps.now searcher.old }
         requires within { IsWithin self.now.g.now s.now }
         requires potential { potential_of self.now.g.now s.now ≤ start_potential_of self.now.g.now }
-        requires later { s.now.effects.first ≡ false }
         ensures of { IsSearcherOf self.now.quality.now self.now.steps.now searcher.new }
         ensures still { StillSearches searcher.old searcher.new }
         ensures value { result ≡ reaches self.now.g.now self.now.grain self.now.target left s.now }
     {
-        self.is_enough(within_by(self.steps, &mut searcher.steps, &self.scale, s, left))
-            && self.is_enough(limit_by(self.quality, &mut searcher.quality, &self.scale, s))
+        s.effects.first
+            || self.is_enough(within_by(self.steps, &mut searcher.steps, &self.scale, s, left))
+                && self.is_enough(limit_by(self.quality, &mut searcher.quality, &self.scale, s))
     }
 
     // Whether a bound isn't below the target.

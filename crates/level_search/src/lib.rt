@@ -7,18 +7,15 @@ ghost use Rattle.step_rules.specs.Legality.{start_of};
 ghost use Rattle.step_rules.specs.Macro.{Completes, IsReached};
 ghost use Rattle.macro_order.specs.Order.{IsBest};
 ghost use Rattle.prefix_fronts.specs.Prefix.{IsGreatest};
-ghost use Rattle.level_search.specs.Answer.{TakesAtLeast, AreWithinLimits, HasQuality, Survives};
+ghost use Rattle.front_walk.specs.Asking.{AllMayAsk, AllStillAsk};
+ghost use Rattle.level_search.specs.Answer.{TakesAtLeast, AreWithinLimits, HasQuality, IsFirst, Survives};
 ghost use Rattle.level_search.specs.Reaching.{front_sizes};
 ghost use Rattle.level_search.specs.Searching.{HasSeenWay, IsSearcherOf, StillSearches};
 ghost use Rattle.level_search.specs.declared.searcher.Searcher.{Searcher as SearcherFields};
 
 mod aim;
-mod endings;
-mod expanding;
 #[cfg(test)]
 mod front_tests;
-mod levels;
-mod links;
 mod searcher;
 #[cfg(test)]
 mod tests;
@@ -26,16 +23,17 @@ mod tests;
 use action_table::{Action, WantMemory};
 use aim::Aim;
 use craft_settings::Settings;
-use levels::search_length;
+use front_walk::{Completion, Walk, Walker, best_of};
 use quality_bound::QualityTruth;
 use relaxed_moves::Scale;
+use searcher::{hire, release};
 pub use searcher::{FoundMacro, Searcher};
 use seat_tables::Shared;
 use std::alloc::Global;
 use std::thread::Threads;
 use step_bound::StepTruth;
 use step_rules::{MOST_STEPS, start, step};
-use worker_gate::Gate;
+use worker_gate::{Crew, Gate};
 
 /// The best macro of a craft, with the number of survivors of each length below its own, and the searchers.
 ///
@@ -84,13 +82,64 @@ pub fn best_macro<G: Gate>(
         steps,
         scale: Scale::new(g, grain),
     };
-    let mut searchers = searchers;
+    let (found, mut searchers) = walk_lengths(rt, alloc, gate, &aim, searchers)?;
+    ask_way(&aim, &mut searchers[0], &found.actions);
+    let Completion { actions, sizes } = found;
+    Ok((
+        FoundMacro {
+            actions,
+            counts: sizes,
+        },
+        searchers,
+    ))
+}
+
+// The first completion that is found, and the searchers.
+fn walk_lengths<G: Gate>(
+    rt: &(impl Threads + Sync),
+    alloc: Global,
+    gate: &G,
+    aim: &Aim<'_>,
+    searchers: Vec<Searcher>,
+) -> Result<(Completion, Vec<Searcher>), WantMemory>
+    requires low { 1 ≤ length searchers.items }
+    requires high { length searchers.items ≤ 64 }
+    requires of { All (IsSearcherOf aim.now.quality.now aim.now.steps.now) searchers.items }
+    requires reached { IsReached aim.now.g.now aim.now.target }
+    requires greatest { IsGreatest aim.now.g.now aim.now.target }
+    ensures found { IfOk result (λ r. IsFirst aim.now.g.now aim.now.grain aim.now.target r.0.actions.items r.0.sizes.items) }
+    ensures of { IfOk result (λ r. All (IsSearcherOf aim.now.quality.now aim.now.steps.now) r.1.items) }
+    ensures still { IfOk result (λ r. AllZip StillSearches searchers.items r.1.items) }
+{
+    let mut crew = Crew::new(rt, gate, hire(alloc, searchers)?);
+    let found = first_found(&mut crew, alloc, aim)?;
+    let searchers = release(alloc, crew.into_workers())?;
+    Ok((found, searchers))
+}
+
+// The first completion that is found, by lengths upwards.
+fn first_found<R: Threads + Sync, G: Gate>(
+    crew: &mut Crew<'_, R, G, Walker<Searcher>>,
+    alloc: Global,
+    aim: &Aim<'_>,
+) -> Result<Completion, WantMemory>
+    requires askers { AllMayAsk (IsSearcherOf aim.now.quality.now aim.now.steps.now) crew.old.workers }
+    requires reached { IsReached aim.now.g.now aim.now.target }
+    requires greatest { IsGreatest aim.now.g.now aim.now.target }
+    ensures askers { AllMayAsk (IsSearcherOf aim.now.quality.now aim.now.steps.now) crew.new.workers }
+    ensures still { AllStillAsk StillSearches crew.old.workers crew.new.workers }
+    ensures found { IfOk result (λ c. IsFirst aim.now.g.now aim.now.grain aim.now.target c.actions.items c.sizes.items) }
+{
+    let from = start(aim.g);
+    let walk = Walk {
+        g: aim.g,
+        from: &from,
+        target: aim.target,
+        test: aim,
+    };
     for n in 1..MOST_STEPS + 1 {
-        let (found, back) = search_length(rt, alloc, gate, &aim, n, searchers)?;
-        searchers = back;
-        if let Some(found) = found {
-            ask_way(&aim, &mut searchers[0], &found.actions);
-            return Ok((found, searchers));
+        if let Some(found) = best_of(crew, alloc, &walk, n)? {
+            return Ok(found);
         }
     }
     unreachable!()

@@ -1,6 +1,11 @@
-use action_table::Action;
+// The searchers, who are the walkers of a walk.
+ghost use Rattle.std.specs.Prelude.{◌≡◌, IfOk, map};
+
+use action_table::{Action, WantMemory};
+use front_walk::Walker;
 use quality_bound::QualityTruth;
 use seat_tables::Seat;
+use std::alloc::Global;
 use step_bound::StepTruth;
 
 /// A worker's seats at the two tables of bounds.
@@ -15,4 +20,32 @@ pub struct Searcher {
 pub struct FoundMacro {
     pub actions: Vec<Action>,
     pub counts: Vec<u64>,
+}
+
+/// A walker for each searcher.
+pub(crate) fn hire(
+    alloc: Global,
+    searchers: Vec<Searcher>,
+) -> Result<Vec<Walker<Searcher>>, WantMemory>
+    ensures { IfOk result (λ walkers. map (λ w. w.asker) walkers.items ≡ searchers.items) }
+{
+    let mut walkers = Vec::with_capacity(alloc, searchers.len())?;
+    for searcher in searchers {
+        walkers.push(Walker::new(alloc, searcher))?;
+    }
+    Ok(walkers)
+}
+
+/// The searchers of the walkers.
+pub(crate) fn release(
+    alloc: Global,
+    walkers: Vec<Walker<Searcher>>,
+) -> Result<Vec<Searcher>, WantMemory>
+    ensures { IfOk result (λ searchers. searchers.items ≡ map (λ w. w.asker) walkers.items) }
+{
+    let mut searchers = Vec::with_capacity(alloc, walkers.len())?;
+    for walker in walkers {
+        searchers.push(walker.into_asker())?;
+    }
+    Ok(searchers)
 }

@@ -17,4 +17,6 @@ pub use reckoning::{MOST_LEFT, MOST_NEED, Reckoning};
 pub use several::all_reach;
 
 #[cfg(test)]
+mod macro_tests;
+#[cfg(test)]
 mod tests;

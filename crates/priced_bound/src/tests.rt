@@ -10,7 +10,7 @@ use std::test::Fail;
 use std::thread::Threads;
 use step_rules::{check, is_final, start, step};
 
-const LEVEL_50: Settings = Settings {
+pub(crate) const LEVEL_50: Settings = Settings {
     level: 50,
     cp: 60,
     durability: 20,
@@ -24,7 +24,7 @@ const LEVEL_50: Settings = Settings {
     backload: false,
 };
 
-const LEVEL_100: Settings = Settings {
+pub(crate) const LEVEL_100: Settings = Settings {
     level: 100,
     cp: 70,
     durability: 20,
@@ -39,7 +39,7 @@ const LEVEL_100: Settings = Settings {
 };
 
 // All touches come first, and Careful Synthesis is forbidden.
-const TOUCHES_FIRST: Settings = Settings {
+pub(crate) const TOUCHES_FIRST: Settings = Settings {
     level: 80,
     cp: 70,
     durability: 25,
@@ -53,7 +53,7 @@ const TOUCHES_FIRST: Settings = Settings {
     backload: true,
 };
 
-const PRICINGS: [Pricing; 4] = [
+pub(crate) const PRICINGS: [Pricing; 4] = [
     Pricing::Durability,
     Pricing::Steps,
     Pricing::CoarseSteps,
@@ -118,7 +118,7 @@ fn drawn_state(g: &Settings, seed: u32) -> Option<Drawn>
 }
 
 // The table of a craft for so many steps from its start.
-fn table_of(
+pub(crate) fn table_of(
     rt: &(impl Threads + Sync),
     alloc: Global,
     g: &Settings,

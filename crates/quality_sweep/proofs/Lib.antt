@@ -1,3 +1,4 @@
+pub mod Capped
 pub mod Completing
 pub mod Exploring
 pub mod Placing

@@ -11,6 +11,8 @@ mod outlook;
 mod places;
 mod quality;
 mod shelves;
+#[cfg(test)]
+mod tests;
 
 pub use ceiling::Ceiling;
 pub use descent::greatest_from;

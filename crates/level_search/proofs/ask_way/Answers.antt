@@ -4,7 +4,7 @@ use Rattle.step_rules.specs.Run.{run_of}
 use Rattle.step_rules.proofs.Runs.{length-macro, next_legal}
 use Rattle.admissible.proofs.Reached.{potential-reached}
 use Rattle.level_search.proofs.Crafts.{aim-settings}
-use Rattle.level_search.proofs.Joined.{still_searches-trans}
+use Rattle.level_search.specs.Laws.{later_searches}
 use Rattle.level_search.proofs.Ways.{next_ran, seen_more}
 use Rattle.level_search.proofs.ask_way.Goals as goal
 
@@ -35,6 +35,6 @@ loop-k-preserved c =
       within = c.step-state.ensures.within;
       ran = subst (λ (j : ℕ). run_of g (start_of g) (take j actions) ≡ Some c.step-state.result) down ran;
       of = c.ask.ensures.of;
-      still = still_searches-trans _ _ _ c.loop-k.invariant.still c.ask.ensures.still;
+      still = later_searches _ _ _ c.loop-k.invariant.still c.ask.ensures.still;
       seen = seen_more g c.args.aim.now.grain actions k c.step-state.result c.loop-k.searcher c.ask.new.searcher ran c.ask.ensures.still c.ask.ensures.seen c.loop-k.invariant.seen;
     }

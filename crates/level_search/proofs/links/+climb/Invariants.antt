@@ -1,4 +1,0 @@
-use Rattle.level_search.proofs.links.+climb.Given as goal
-
-abbrev pub decreases-climb : goal.decreases-climb
-decreases-climb l = l.k
