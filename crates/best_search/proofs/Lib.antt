@@ -1,0 +1,4 @@
+pub mod Backward
+pub mod Free
+pub mod Tabled
+pub mod Taking

@@ -1,0 +1,16 @@
+use Rattle.std.proofs.Common.{List, sym, subst}
+use Rattle.std.specs.List.{All}
+use Rattle.std.proofs.lemmas.List.Elements.{All-nil}
+use Rattle.craft_settings.specs.Ranges.{SettingsFields}
+use Rattle.priced_bound.specs.Bounds.{BoundFields}
+use Rattle.best_search.specs.Looking.{IsTable}
+use Rattle.best_search.proofs.Tabled.{tables-more}
+use Rattle.best_search.proofs.tables.coarse_tables.Goals as goal
+
+pub returns : goal.returns
+returns g c =
+    let craft = c.args.goal.now.g.now in
+    tables-more craft c.new-tables.result.items c.push.new.self.items c.in_ok-table_of.field-0
+    (subst (λ (bs : List BoundFields). All (IsTable craft) bs) (sym c.new-tables.ensures.items) (All-nil (IsTable craft)))
+    (subst (λ (h : SettingsFields). IsTable h c.in_ok-table_of.field-0) c.new-by.ensures.g c.in_ok-table_of.ensures.table)
+    c.in_ok-push.ensures.items
