@@ -57,30 +57,30 @@ pub limited_on_way : (g : SettingsFields) (grain : ℕ) (m : List Action) (count
 limited_on_way g grain m count s = limited_by g grain m count s (nat_lt count (length m)) refl
 
 -- a state that is read
-pub state_read : (g : SettingsFields) (m : List Action) (states : List StateFields) (count : ℕ) (s : StateFields) → AreStatesOf g m states → count ≤ length m
-    → s ≡ get_or states count s → run_of g (start_of g) (take count m) ≡ Some s
-state_read g m states count s are low is = are.each count s low ∙ ap Some (sym is)
+pub state_read : (g : SettingsFields) (from : StateFields) (m : List Action) (states : List StateFields) (count : ℕ) (s : StateFields) → AreStatesOf g from m states → count ≤ length m
+    → s ≡ get_or states count s → run_of g from (take count m) ≡ Some s
+state_read g from m states count s are low is = are.each count s low ∙ ap Some (sym is)
 
 -- the states after at most so many actions
-abbrev pub AreStatesTo : SettingsFields → List Action → ℕ → List StateFields → Type 0
-AreStatesTo g m most states = (count : ℕ) (d : StateFields) → count ≤ most → run_of g (start_of g) (take count m) ≡ Some (get_or states count d)
+abbrev pub AreStatesTo : SettingsFields → StateFields → List Action → ℕ → List StateFields → Type 0
+AreStatesTo g from m most states = (count : ℕ) (d : StateFields) → count ≤ most → run_of g from (take count m) ≡ Some (get_or states count d)
 
-pub first_state : (g : SettingsFields) (m : List Action) (state : StateFields) (states : List StateFields) → state ≡ start_of g → states ≡ state ∷ [] → AreStatesTo g m 0 states
-first_state g m state states is items count d low =
+pub first_state : (g : SettingsFields) (from : StateFields) (m : List Action) (states : List StateFields) → states ≡ from ∷ [] → AreStatesTo g from m 0 states
+first_state g from m states items count d low =
     let none : count ≡ 0 = omega arith in
-    subst (λ n. run_of g (start_of g) (take n m) ≡ Some (get_or states n d)) (sym none)
-    (ap Some (sym (ap (λ l. get_or l 0 d) items ∙ is)))
+    subst (λ n. run_of g from (take n m) ≡ Some (get_or states n d)) (sym none)
+    (ap Some (sym (ap (λ l. get_or l 0 d) items)))
 
 -- one more state
-pub states_more : (g : SettingsFields) (m : List Action) (place : ℕ) (states : List StateFields) (state : StateFields) → length states ≡ place + 1 → AreStatesTo g m place states
-    → run_of g (start_of g) (take (place + 1) m) ≡ Some state → AreStatesTo g m (place + 1) (states ++ state ∷ [])
-states_more g m place states state as_many before ran count d low = go (cases_lt count (place + 1))
+pub states_more : (g : SettingsFields) (from : StateFields) (m : List Action) (place : ℕ) (states : List StateFields) (state : StateFields) → length states ≡ place + 1 → AreStatesTo g from m place states
+    → run_of g from (take (place + 1) m) ≡ Some state → AreStatesTo g from m (place + 1) (states ++ state ∷ [])
+states_more g from m place states state as_many before ran count d low = go (cases_lt count (place + 1))
   where
-    go : (count < place + 1) ⊎ (place + 1 ≤ count) → run_of g (start_of g) (take count m) ≡ Some (get_or (states ++ state ∷ []) count d)
+    go : (count < place + 1) ⊎ (place + 1 ≤ count) → run_of g from (take count m) ≡ Some (get_or (states ++ state ∷ []) count d)
     go (inl below) = before count d (omega arith) ∙ ap Some (sym (get_or_append_left states (state ∷ []) d count (omega (arith, as_many))))
     go (inr above) =
         let last : count ≡ place + 1 = omega arith in
-        subst (λ n. run_of g (start_of g) (take n m) ≡ Some (get_or (states ++ state ∷ []) n d)) (sym last)
+        subst (λ n. run_of g from (take n m) ≡ Some (get_or (states ++ state ∷ []) n d)) (sym last)
         (ran ∙ ap Some (sym (get_or_push states state d (place + 1) as_many)))
 
 old_number : (numbers : List ℕ) (number place : ℕ) → place < length numbers → slice_get (numbers ++ number ∷ []) place ≡ slice_get numbers place

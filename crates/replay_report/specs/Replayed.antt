@@ -5,7 +5,7 @@ use Rattle.std.specs.Fmt.{decimal}
 use Rattle.action_table.specs.declared.action.Action.{Action}
 use Rattle.craft_state.specs.Craft.{StateFields}
 use Rattle.craft_settings.specs.Ranges.{SettingsFields}
-use Rattle.step_rules.specs.Legality.{is_complete, is_over}
+use Rattle.step_rules.specs.Legality.{start_of, is_complete, is_over}
 use Rattle.step_rules.specs.declared.legality.Illegal.{Illegal}
 use Rattle.replay_report.specs.Lines.{replay_line}
 use Rattle.replay_report.specs.Reasons.{reason_word}
@@ -14,7 +14,7 @@ use Rattle.replay_report.specs.declared.style.Report.TheVariants.{Plain}
 
 -- the table in the plain style, between the line `replay` and a last line
 abbrev pub replay_with_of : SettingsFields → List Action → List ℕ → List ℕ
-replay_with_of g m line = concat (replay_line ∷ table_of g Plain [] m ∷ line ∷ [])
+replay_with_of g m line = concat (replay_line ∷ table_of g (start_of g) Plain [] m ∷ line ∷ [])
 
 -- the last line for actions that end in a state
 abbrev pub ending_of : SettingsFields → StateFields → List ℕ

@@ -12,13 +12,13 @@ use Rattle.replay_report.specs.Lines.{head_of, kept_line, level_line, replay_lin
 use Rattle.replay_report.specs.declared.style.Report.{Report}
 use Rattle.replay_report.specs.declared.style.Report.TheVariants.{Plain, Limits, Levels}
 
--- what is written of the state after some actions, and nothing where they don't run
-abbrev pub text_after : SettingsFields → List Action → (StateFields → List ℕ) → List ℕ
-text_after g m written = option_map_or written (run_of g (start_of g) m) []
+-- what is written of the state after some actions from a state, and nothing where they don't run
+abbrev pub text_after : SettingsFields → StateFields → List Action → (StateFields → List ℕ) → List ℕ
+text_after g s m written = option_map_or written (run_of g s m) []
 
--- the first line
-abbrev pub first_line : SettingsFields → List Action → List ℕ
-first_line g m = text_after g m (head_of g m)
+-- the first line for actions from a state
+abbrev pub first_line : SettingsFields → StateFields → List Action → List ℕ
+first_line g s m = text_after g s m (head_of g m)
 
 -- the limit that the line of a place shows
 abbrev pub shown : Report → List ℕ → ℕ → Option ℕ
@@ -27,13 +27,13 @@ shown Limits limits place = slice_get limits place
 shown Levels limits place = None
 
 -- the line of the action at a place: its number is one more, and the state is the one after as many actions
-abbrev pub step_line : SettingsFields → Report → List ℕ → List Action → ℕ × Action → List ℕ
-step_line g style limits m (place, action) =
-    text_after g (take (place + 1) m) (λ after. table_row (place + 1) action after (shown style limits place))
+abbrev pub step_line : SettingsFields → StateFields → Report → List ℕ → List Action → ℕ × Action → List ℕ
+step_line g s style limits m (place, action) =
+    text_after g s (take (place + 1) m) (λ after. table_row (place + 1) action after (shown style limits place))
 
 -- the table: a line for each action
-abbrev pub table_of : SettingsFields → Report → List ℕ → List Action → List ℕ
-table_of g style limits m = flat_map (step_line g style limits m) (enumerate_from 0 m)
+abbrev pub table_of : SettingsFields → StateFields → Report → List ℕ → List Action → List ℕ
+table_of g s style limits m = flat_map (step_line g s style limits m) (enumerate_from 0 m)
 
 -- a line for each level, from 0
 abbrev pub levels_of : List ℕ → List ℕ
@@ -48,8 +48,13 @@ levels_shown Levels counts = levels_of counts
 -- the parts of the text, in order
 abbrev pub parts_of : SettingsFields → Report → (counts limits : List ℕ) → List Action → List (List ℕ)
 parts_of g style counts limits m =
-    first_line g m ∷ kept_line counts ∷ blocks_of m ∷ replay_line ∷ table_of g style limits m ∷ levels_shown style counts ∷ []
+    first_line g (start_of g) m ∷ kept_line counts ∷ blocks_of m ∷ replay_line ∷ table_of g (start_of g) style limits m
+    ∷ levels_shown style counts ∷ []
 
 -- the whole text
 abbrev pub report_of : SettingsFields → Report → (counts limits : List ℕ) → List Action → List ℕ
 report_of g style counts limits m = concat (parts_of g style counts limits m)
+
+-- the text of the rest of a craft, from a state that it has come to
+abbrev pub continuation_of : SettingsFields → StateFields → List Action → List ℕ
+continuation_of g s m = concat (first_line g s m ∷ blocks_of m ∷ replay_line ∷ table_of g s Plain [] m ∷ [])

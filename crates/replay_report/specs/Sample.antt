@@ -5,6 +5,7 @@ use Rattle.std.specs.Fmt.{decimal}
 use Rattle.action_table.specs.declared.action.Action.{Action}
 use Rattle.craft_state.specs.Craft.{StateFields}
 use Rattle.craft_settings.specs.Ranges.{SettingsFields}
+use Rattle.step_rules.specs.Legality.{start_of}
 use Rattle.macro_order.specs.Order.{seconds_of}
 use Rattle.replay_report.specs.Report.{text_after}
 
@@ -31,7 +32,7 @@ none_line = codes "none\n"
 
 -- both lines for a macro
 abbrev pub sample_report_of : ℕ → SettingsFields → (counts : List ℕ) → List Action → List ℕ
-sample_report_of number g counts m = sample_line number g ++ text_after g m (result_line g counts m)
+sample_report_of number g counts m = sample_line number g ++ text_after g (start_of g) m (result_line g counts m)
 
 -- both lines where no legal macro completes
 abbrev pub sample_none_of : ℕ → SettingsFields → List ℕ

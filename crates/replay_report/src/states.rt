@@ -1,6 +1,6 @@
-// The states of a macro.
+// The states of a list of actions.
 ghost use Rattle.std.specs.Prelude.{◌≢◌, IfOk, None};
-ghost use Rattle.step_rules.specs.Legality.{start_of};
+ghost use Rattle.step_rules.specs.Legality.{IsWithin, start_of};
 ghost use Rattle.step_rules.specs.Run.{run_of};
 ghost use Rattle.replay_report.specs.States.{AreStatesOf};
 
@@ -10,17 +10,31 @@ use craft_state::State;
 use std::alloc::{AllocError, Global};
 use step_rules::{start, step};
 
-// The state before the first of legal actions, and the one after each.
+// The start, and the state after each of the actions that are legal in turn.
 pub(crate) fn states_of(
     alloc: Global,
     g: &Settings,
     actions: &[Action],
 ) -> Result<Vec<State>, AllocError>
     requires { run_of g.now (start_of g.now) actions.now ≢ None }
-    ensures { IfOk result (λ states. AreStatesOf g.now actions.now states.items) }
+    ensures { IfOk result (λ states. AreStatesOf g.now (start_of g.now) actions.now states.items) }
+{
+    states_from(alloc, g, &start(g), actions)
+}
+
+// A state, and that after each of the actions that are legal in turn from it.
+pub(crate) fn states_from(
+    alloc: Global,
+    g: &Settings,
+    from: &State,
+    actions: &[Action],
+) -> Result<Vec<State>, AllocError>
+    requires within { IsWithin g.now from.now }
+    requires legal { run_of g.now from.now actions.now ≢ None }
+    ensures { IfOk result (λ states. AreStatesOf g.now from.now actions.now states.items) }
 {
     let mut states = Vec::new(alloc);
-    let mut state = start(g);
+    let mut state = *from;
     states.push(state)?;
     for &action in actions {
         state = step(g, &state, action);

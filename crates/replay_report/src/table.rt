@@ -1,5 +1,6 @@
 ghost use Rattle.std.specs.Prelude.{◌≡◌, ◌≤◌, ◌+◌, length, string_bytes, IfOk};
 ghost use Rattle.craft_settings.specs.Ranges.{SettingsFields};
+ghost use Rattle.craft_state.specs.Craft.{StateFields};
 ghost use Rattle.step_rules.specs.declared.legality.TheConstants.{MOST_STEPS};
 ghost use Rattle.replay_report.specs.States.{AreStatesOf};
 ghost use Rattle.replay_report.specs.Report.{first_line, table_of};
@@ -11,22 +12,22 @@ use craft_settings::Settings;
 use craft_state::State;
 use std::alloc::{AllocError, Global};
 
-// The first line of a macro with these states.
-#[tactic(auto, using(crate::proofs::Turns::first_line_is))]
+// The first line of a list with these states.
 pub(crate) fn first_line(
     alloc: Global,
     g: &Settings,
     actions: &[Action],
     states: &[State],
 ) -> Result<Vec<u8>, WantMemory>
-    requires states { AreStatesOf g.now actions.now states.now }
+    requires as_many { length states.now ≡ length actions.now + 1 }
     requires short { length actions.now ≤ MOST_STEPS }
-    ensures { IfOk result (λ text. text.items ≡ first_line g.now actions.now) }
+    ensures { IfOk result (λ text. (from : StateFields) → AreStatesOf g.now from actions.now states.now
+        → text.items ≡ first_line g.now from actions.now) }
 {
     head(alloc, g, actions, &states[actions.len()])
 }
 
-// The table of a macro with these states, one line for each step.
+// The table of a list with these states, one line for each step.
 pub(crate) fn table_text(
     alloc: Global,
     actions: &[Action],
@@ -37,8 +38,8 @@ pub(crate) fn table_text(
     requires as_many { length states.now ≡ length actions.now + 1 }
     requires short { length actions.now ≤ MOST_STEPS }
     requires limits { style.now ≡ Report.Limits → length limits.now ≡ length actions.now }
-    ensures { IfOk result (λ text. (g : SettingsFields) → AreStatesOf g actions.now states.now
-        → string_bytes text ≡ table_of g style.now limits.now actions.now) }
+    ensures { IfOk result (λ text. (g : SettingsFields) (from : StateFields) → AreStatesOf g from actions.now states.now
+        → string_bytes text ≡ table_of g from style.now limits.now actions.now) }
 {
     let mut text = String::new(alloc);
     for (place, &action) in actions.iter().enumerate() {

@@ -15,7 +15,6 @@ use Rattle.craft_settings.specs.Reading.{max_length, number_here, range_at, valu
 use Rattle.craft_settings.specs.Unknown.{unknown_path, unknown_fault, is_known}
 use Rattle.run_io.specs.FaultLine.{settings_line}
 use Rattle.run_io.specs.Reading.{AcceptsOnly, RefusesSettings}
-use Rattle.run_io.specs.declared.reading.TheConstants.{READ_MOST}
 
 -- no fault, or another one than that of length
 abbrev IsOther : Option SettingsFault → Type 0
@@ -91,12 +90,12 @@ is_other : (fault : SettingsFault) → IsOther (Some fault) → fault ≢ TooLon
 is_other fault is same = subst (λ (x : SettingsFault). IsOther (Some x)) same is
 
 refused_by : (long : Bool) (fault : SettingsFault) (bytes : List ℕ) → nat_lt max_length (length bytes) ≡ long
-    → length bytes ≤ READ_MOST → file_fault bytes ≡ Some fault → (fault ≡ TooLong) ↔ (length bytes ≡ READ_MOST)
-refused_by true fault bytes test within is =
+    → file_fault bytes ≡ Some fault → (fault ≡ TooLong) ↔ (max_length < length bytes)
+refused_by true fault bytes test is =
     let long : max_length < length bytes = grind arith in
     let same : Some fault ≡ Some TooLong = sym is ∙ long_fault bytes long in
-    ((λ _. omega arith), (λ _. cc))
-refused_by false fault bytes test within is =
+    ((λ _. long), (λ _. cc))
+refused_by false fault bytes test is =
     let short : length bytes ≤ max_length = grind arith in
     let other : IsOther (Some fault) = subst IsOther (sym (short_fault bytes short) ∙ is) (other_document (document bytes)) in
     ((λ long. absurd (is_other fault other long)), (λ long. absurd (omega arith)))
@@ -116,8 +115,8 @@ not_memory fault P other (inl memory) = absurd (other memory)
 not_memory fault P other (inr is) = is
 
 -- bytes are refused with their fault
-pub are_refused : (fault : SettingsFault) (bytes line : List ℕ) → length bytes ≤ READ_MOST → fault ≢ WantMemory → OrMemory fault (file_fault bytes ≡ Some fault)
+pub are_refused : (fault : SettingsFault) (bytes line : List ℕ) → fault ≢ WantMemory → OrMemory fault (file_fault bytes ≡ Some fault)
     → line ≡ settings_line fault → RefusesSettings bytes line
-are_refused fault bytes line within other or told =
+are_refused fault bytes line other or told =
     let is = not_memory fault (file_fault bytes ≡ Some fault) other or in
-    record { fault = fault; first = is; long = refused_by (nat_lt max_length (length bytes)) fault bytes refl within is; told = told }
+    record { fault = fault; first = is; long = refused_by (nat_lt max_length (length bytes)) fault bytes refl is; told = told }

@@ -1,2 +1,3 @@
-pub mod Endings
 mod FaultLength
+pub mod Endings
+pub mod Tasks

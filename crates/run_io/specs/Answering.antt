@@ -5,7 +5,7 @@ use Rattle.std.specs.Prelude.{ℕ, ◌≡◌, ◌≤◌, ◌+◌, List, length, 
 use Rattle.craft_io.specs.Causes.{Rose, next_count}
 use Rattle.craft_io.specs.Views.{Gains, GainsPart, SinkView, SourceView}
 use Rattle.craft_settings.specs.Ranges.{SettingsFields}
-use Rattle.run_io.specs.Reading.{AcceptsOnly, RefusesSettings}
+use Rattle.run_io.specs.Reading.{AcceptsOnly, ReadsAll, RefusesSettings}
 use Rattle.run_io.specs.Statuses.{IsResult}
 use Rattle.run_io.specs.declared.status.Status.{Status}
 use Rattle.run_io.specs.declared.status.Status.TheVariants.{BadSettings, ReadFault, WriteFault}
@@ -28,6 +28,12 @@ pub record Writes (rows : Rows) (status : Status) (out out' : SinkView) : Type 0
   pub text : List ℕ
   pub is : rows status text
   pub gains : Gains text out out'
+
+-- all that the source had was read, and the text of its row was written whole
+pub record ReadsAndWrites (table : List ℕ → Rows) (status : Status) (before after : SourceView) (out out' : SinkView) : Type 0 where
+  pub input : List ℕ
+  pub all : ReadsAll input before after
+  pub writes : Writes (table input) status out out'
 
 -- a part of the text of a result's row was written, and not the whole
 pub record WritesPart (rows : Rows) (out out' : SinkView) : Type 0 where

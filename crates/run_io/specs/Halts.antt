@@ -43,9 +43,13 @@ abbrev pub CountsHalt : {T : Type 0} → Result T Halt → ℕ → ℕ → Type 
 CountsHalt (Err ReadFault) faults faults' = faults' ≡ next_count faults
 CountsHalt _ faults faults' = faults' ≡ faults
 
+-- the answer is a result that stands in these rows
+abbrev pub IsAnswerIn : Rows → Answer → Type 0
+IsAnswerIn rows answer = IsResult answer.status × rows answer.status answer.text.items
+
 -- the answer stands in these rows, or the refusal does; memory may be wanted in their place
 abbrev pub IsIn : Rows → Result Answer Halt → Type 0
-IsIn rows (Ok answer) = IsResult answer.status × rows answer.status answer.text.items
+IsIn rows (Ok answer) = IsAnswerIn rows answer
 IsIn rows (Err (Refused refusal)) = IsRefusal refusal.status × rows refusal.status refusal.line.items
 IsIn rows (Err WantMemory) = ⊤
 IsIn rows (Err _) = ⊥

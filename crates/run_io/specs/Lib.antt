@@ -3,3 +3,4 @@ pub mod FaultLine
 pub mod Halts
 pub mod Reading
 pub mod Statuses
+pub mod Tasks

@@ -3,11 +3,10 @@ use Rattle.std.specs.Prelude.{ℕ, ◌≡◌, ◌<◌, ◌≤◌, ◌↔◌, Lis
 use Rattle.craft_io.specs.Views.{Gives, HasEnded, SourceView}
 use Rattle.craft_settings.specs.Ranges.{SettingsFields}
 use Rattle.craft_settings.specs.Accepts.{Accepts}
-use Rattle.craft_settings.specs.Reading.{file_fault}
+use Rattle.craft_settings.specs.Reading.{file_fault, max_length}
 use Rattle.craft_settings.specs.declared.fault.SettingsFault.{SettingsFault}
 use Rattle.craft_settings.specs.declared.fault.SettingsFault.TheVariants.{TooLong}
 use Rattle.run_io.specs.FaultLine.{settings_line}
-use Rattle.run_io.specs.declared.reading.TheConstants.{READ_MOST}
 
 -- the input of a run: all bytes of the source, or as many as are read at most
 pub record Reads (most : ℕ) (input : List ℕ) (before after : SourceView) : Type 0 where
@@ -24,10 +23,10 @@ pub record AcceptsOnly (bytes : List ℕ) (g : SettingsFields) : Type 0 where
   pub accepted : Accepts bytes g
   pub only : (other : SettingsFields) → Accepts bytes other → other ≡ g
 
--- the bytes are refused as settings, and this line tells their fault; they are too long exactly where as many
--- were read as are read at most
+-- the bytes are refused as settings, and this line tells their fault; they are too long exactly where they are more
+-- than settings may have
 pub record RefusesSettings (bytes line : List ℕ) : Type 0 where
   pub fault : SettingsFault
   pub first : file_fault bytes ≡ Some fault
-  pub long : (fault ≡ TooLong) ↔ (length bytes ≡ READ_MOST)
+  pub long : (fault ≡ TooLong) ↔ (max_length < length bytes)
   pub told : line ≡ settings_line fault

@@ -2,7 +2,7 @@
 use Rattle.std.specs.Prelude.{ℕ, List, Option, None, Some, ⊤}
 use Rattle.run_io.specs.FaultLine.{words_line, read_line, write_line, memory_line}
 use Rattle.run_io.specs.declared.status.Status.{Status}
-use Rattle.run_io.specs.declared.status.Status.TheVariants.{Solved, NoMacro, BadWords, BadSettings, ReadFault, WriteFault, WantMemory}
+use Rattle.run_io.specs.declared.status.Status.TheVariants.{Solved, NoMacro, BadWords, BadSettings, ReadFault, WriteFault, WantMemory, NotReached, BadMacro, StoppedMacro, NotBest}
 
 -- the exit status of the program
 abbrev pub code_of : Status → ℕ
@@ -13,16 +13,24 @@ code_of BadSettings = 3
 code_of ReadFault = 4
 code_of WriteFault = 5
 code_of WantMemory = 6
+code_of NotReached = 8
+code_of BadMacro = 9
+code_of StoppedMacro = 10
+code_of NotBest = 11
 
 -- a result: its text was written to `out`
 abbrev pub IsResult : Status → Type 0
 IsResult Solved = ⊤
 IsResult NoMacro = ⊤
+IsResult NotReached = ⊤
+IsResult StoppedMacro = ⊤
+IsResult NotBest = ⊤
 IsResult _ = ⊥
 
 -- a refusal of what came in: its line was told on `err`
 abbrev pub IsRefusal : Status → Type 0
 IsRefusal BadSettings = ⊤
+IsRefusal BadMacro = ⊤
 IsRefusal _ = ⊥
 
 -- the run ended before the first byte was written
@@ -30,6 +38,9 @@ abbrev pub IsBeforeWriting : Status → Type 0
 IsBeforeWriting Solved = ⊥
 IsBeforeWriting NoMacro = ⊥
 IsBeforeWriting WriteFault = ⊥
+IsBeforeWriting NotReached = ⊥
+IsBeforeWriting StoppedMacro = ⊥
+IsBeforeWriting NotBest = ⊥
 IsBeforeWriting _ = ⊤
 
 -- the line of a status that always tells the same one

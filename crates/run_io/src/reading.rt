@@ -1,5 +1,5 @@
 // The input of a run, and the settings that are in it.
-ghost use Rattle.std.specs.Prelude.{◌≡◌, ◌≤◌, IfErr, IfOk, length};
+ghost use Rattle.std.specs.Prelude.{◌≡◌, IfErr, IfOk};
 ghost use Rattle.craft_io.specs.Views.{GivesAtMost, ReadsAtMostTimes};
 ghost use Rattle.run_io.specs.Halts.{CountsHalt, IsHaltOfReading, IsHaltOfSettings};
 ghost use Rattle.run_io.specs.Reading.{AcceptsOnly, Reads};
@@ -12,7 +12,7 @@ use craft_io::{Source, fill};
 use craft_settings::{Settings, read};
 use std::alloc::Global;
 
-/// One byte more than a settings file may have, so that a longer one is seen.
+/// One byte more than an input of settings may have, with macro text or without, so that a longer one is seen.
 pub const READ_MOST: usize = 65537;
 
 /// Reads until so many bytes have come or the source is at its end.
@@ -36,7 +36,6 @@ pub fn read_up_to<S: Source>(alloc: Global, source: &mut S, most: usize) -> Resu
 
 /// The settings that the bytes are. It halts where they are refused, and for want of memory.
 pub fn settings_in(alloc: Global, bytes: &[u8]) -> Result<Settings, Halt>
-    requires { length bytes.now ≤ READ_MOST }
     ensures accepted { IfOk result (AcceptsOnly bytes.now) }
     ensures halts { IfErr result (IsHaltOfSettings bytes.now) }
 {

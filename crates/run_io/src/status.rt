@@ -5,13 +5,13 @@ ghost use Rattle.run_io.specs.Statuses.{code_of};
 /// How a run ended.
 #[derive(Clone, Copy, Debug, PartialEq, Eq)]
 pub enum Status {
-    /// The text of the best macro was written.
+    /// The text that was asked for was written.
     Solved,
     /// No legal macro completes the craft, and `none` was written.
     NoMacro,
     /// The words aren't understood. Nothing was read.
     BadWords,
-    /// The bytes that were read are no settings.
+    /// What was read holds no settings.
     BadSettings,
     /// The source failed.
     ReadFault,
@@ -19,6 +19,14 @@ pub enum Status {
     WriteFault,
     /// Memory was asked for and refused, before the first byte was written.
     WantMemory,
+    /// No base quality that is tried is enough, and a text that says so was written.
+    NotReached,
+    /// The settings are followed by no macro text.
+    BadMacro,
+    /// An action of the macro isn't legal in its turn, and the text up to it was written.
+    StoppedMacro,
+    /// The macro isn't the best one, and the text of the best one was written.
+    NotBest,
 }
 
 impl Status {
@@ -34,6 +42,10 @@ impl Status {
             Status::ReadFault => 4,
             Status::WriteFault => 5,
             Status::WantMemory => 6,
+            Status::NotReached => 8,
+            Status::BadMacro => 9,
+            Status::StoppedMacro => 10,
+            Status::NotBest => 11,
         }
     }
 }

@@ -1,3 +1,4 @@
 pub mod Ending
+pub mod Inputs
 pub mod Limited
 pub mod Sampled

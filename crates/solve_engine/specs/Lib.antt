@@ -1,6 +1,10 @@
+pub mod Check
 pub mod Commands
-pub mod Outcome
+pub mod Input
+pub mod Pasted
+pub mod Replay
 pub mod Sample
 pub mod Search
 pub mod Solve
+pub mod Sweep
 pub mod Words

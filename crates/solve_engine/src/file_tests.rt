@@ -33,7 +33,7 @@ replay
   2 Basic Synthesis         100    100  10   18
 ";
 
-const TOUCH_BETWEEN: &str = "steps 3 seconds 9 progress 200/200 quality 100/500
+pub(crate) const TOUCH_BETWEEN: &str = "steps 3 seconds 9 progress 200/200 quality 100/500
 kept 5
 macro 1
 /ac \"Basic Synthesis\" <wait.3>

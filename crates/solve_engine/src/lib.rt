@@ -1,9 +1,14 @@
-//! The whole of a run: words and settings come in, and the text of the best macro goes out; or the two lines of a sample.
+//! The whole of a run: words, settings and macros come in, and the text that the command answers goes out.
 #![tactic(auto)]
 
+mod check;
+mod pasted;
+mod replay;
 mod sample;
 mod searches;
 mod solve;
+mod sweep;
+mod sweep_text;
 mod top;
 
 pub use run_io::Status;
@@ -12,6 +17,10 @@ pub use top::run;
 #[cfg(test)]
 mod file_tests;
 #[cfg(test)]
+mod macro_tests;
+#[cfg(test)]
 mod sample_tests;
+#[cfg(test)]
+mod sweep_tests;
 #[cfg(test)]
 mod tests;

@@ -1,7 +1,7 @@
 // The search for the best macro, by workers over shared tables.
 ghost use Rattle.std.specs.Prelude.{◌≡◌, ◌≤◌, IfOk, MatchOption, All, length};
 ghost use Rattle.level_search.specs.Searching.{IsSearcherOf};
-ghost use Rattle.macro_order.specs.Order.{NothingCompletes};
+ghost use Rattle.macro_order.specs.Order.{IsBest, NothingCompletes};
 ghost use Rattle.prefix_fronts.specs.Prefix.{IsGreatest};
 ghost use Rattle.step_rules.specs.Macro.{IsReached};
 ghost use Rattle.seat_tables.specs.Seats.{IsOf};
@@ -9,6 +9,7 @@ ghost use Rattle.solve_words.specs.Words.{AreInRange};
 ghost use Rattle.solve_engine.specs.Search.{IsFound};
 
 use action_table::{Action, WantMemory};
+use best_search::best_with;
 use craft_settings::Settings;
 use level_search::{FoundMacro, Searcher, best_macro};
 use quality_bound::QualityTruth;
@@ -61,6 +62,20 @@ pub(crate) fn find<G: Gate>(
         table,
         seat,
     }))
+}
+
+/// The best macro of a craft without the sizes of its fronts, or None where no legal macro completes it.
+pub(crate) fn best_of<G: Gate>(
+    rt: &(impl Threads + Sync),
+    alloc: Global,
+    g: &Settings,
+    given: &Words,
+    gate: &G,
+) -> Result<Option<Vec<Action>>, WantMemory>
+    requires { AreInRange given.now }
+    ensures { IfOk result (λ found. MatchOption found (NothingCompletes g.now) (λ m. IsBest g.now m.items)) }
+{
+    best_with(rt, alloc, g, given.workers, gate)
 }
 
 // Seats for all workers.

@@ -62,14 +62,15 @@ fn solve_for<G: Gate>(
     })
 }
 
-fn none_text(alloc: Global) -> Result<Vec<u8>, WantMemory>
+/// The text where no legal macro completes the craft.
+pub(crate) fn none_text(alloc: Global) -> Result<Vec<u8>, WantMemory>
     ensures { IfOk result (λ text. text.items ≡ none_line) }
 {
     Ok(Vec::from_slice(alloc, b"none\n")?)
 }
 
-// The text of the macro in a style.
-fn macro_text(
+/// The text of the macro in a style.
+pub(crate) fn macro_text(
     alloc: Global,
     g: &Settings,
     grain: u32,

@@ -438,6 +438,9 @@ fn given_words(rt: HostRuntime) -> Result<(), Fail> {
     is_bad(&rt, &["sample"])?;
     is_bad(&rt, &["sample", "1000000"])?;
     is_bad(&rt, &["sample", "7", "--report", "plain"])?;
+    is_bad(&rt, &["replay", "--grain", "2"])?;
+    is_bad(&rt, &["check", "--report", "plain"])?;
+    is_bad(&rt, &["sweep", "--report", "plain"])?;
     let file = craft(rt.alloc(), ONE_TOUCH)?;
     let words = ["solve", "--workers=64", "--report", "plain", "--grain", "8"];
     let want = (Status::Solved, TOUCH.as_bytes(), "");

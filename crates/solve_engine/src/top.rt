@@ -2,20 +2,25 @@
 ghost use Rattle.std.specs.Prelude.{◌≡◌, ◌≢◌, ◌↔◌, ◌⊎◌, ◌≤◌, ℕ, List, IfSome, length};
 ghost use Rattle.craft_io.specs.Causes.{Rose};
 ghost use Rattle.craft_io.specs.Views.{GivesAtMost, GivesFewer, ReadsAtMostTimes};
-ghost use Rattle.run_io.specs.Answering.{CountsReadFault, CountsWriteFault, GivesTold, HasRow, Refuses, Tells, Writes, WritesPart};
+ghost use Rattle.run_io.specs.Answering.{CountsReadFault, CountsWriteFault, GivesTold, HasRow, ReadsAndWrites, Refuses, Tells, Writes, WritesPart};
 ghost use Rattle.run_io.specs.Halts.{IsIn, RunsTo};
 ghost use Rattle.run_io.specs.Reading.{ReadsAll};
 ghost use Rattle.run_io.specs.Statuses.{IsBeforeWriting, IsRefusal, IsResult, fault_line};
 ghost use Rattle.solve_words.specs.Words.{AreInRange};
 ghost use Rattle.solve_words.specs.declared.words.Words.{Words as WordsFields};
-ghost use Rattle.solve_engine.specs.Commands.{Answers, Task, most_for, most_of};
-ghost use Rattle.solve_engine.specs.Outcome.{IsDone};
+ghost use Rattle.solve_engine.specs.Check.{CheckAnswers};
+ghost use Rattle.solve_engine.specs.Commands.{Answers, IsDone, Task, most_for, most_of};
+ghost use Rattle.solve_engine.specs.Replay.{ReplayAnswers};
 ghost use Rattle.solve_engine.specs.Sample.{SampleAnswers};
 ghost use Rattle.solve_engine.specs.Solve.{SolveAnswers};
-ghost use Rattle.solve_engine.specs.Words.{AreBad, Ask, AskToSample, AskToSolve};
+ghost use Rattle.solve_engine.specs.Sweep.{SweepAnswers};
+ghost use Rattle.solve_engine.specs.Words.{AreBad, Ask, AskTo, AskToSample, AskToSolve};
 
+use crate::check::check;
+use crate::replay::replay;
 use crate::sample::sample;
 use crate::solve::solve;
+use crate::sweep::sweep;
 use craft_io::{Sink, Source};
 use run_io::{Answer, Halt, READ_MOST, Status, read_up_to, tell, write_answer};
 use solve_words::{Command, Words, WordsFault, read_words};
@@ -28,8 +33,11 @@ use worker_gate::Gate;
 /// The words are a command and its options, as `read_words` has them. `solve` reads settings from `source`, at most
 /// 65537 bytes, and writes the text of the best macro to `out`, in the style and at the grain that the words name, or
 /// `none` where no legal macro completes the craft. `sample` reads nothing, and writes two lines on the best macro of
-/// the sample settings of its number. Every other answer comes with a line on `err`. A failure of `err` changes
-/// nothing, and neither the number of workers nor the gate does.
+/// the sample settings of its number. `sweep` reads settings too, and writes the least base quality with which a macro
+/// has all the quality that counts. `replay` and `check` read settings, a line `---` and macro text, together at most
+/// 65536 bytes; `replay` writes what the macro does step by step, and `check` whether it is the best one. Every other
+/// answer comes with a line on `err`. A failure of `err` changes nothing, and neither the number of workers nor the
+/// gate does.
 pub fn run<S: Source, O: Sink, E: Sink, G: Gate>(
     rt: &(impl Threads + Sync),
     alloc: Global,
@@ -47,6 +55,15 @@ pub fn run<S: Source, O: Sink, E: Sink, G: Gate>(
     // The two lines on the best macro of a sample were written, or on none.
     ensures sample { (asked : AskToSample words.now) → IsResult result
         → Writes (SampleAnswers asked.given asked.number) result (O.view out.old) (O.view out.new) }
+    // The least base quality that is enough for the settings was written, or that none is.
+    ensures sweep { AskTo Command.Sweep words.now → IsResult result
+        → ReadsAndWrites SweepAnswers result (S.view source.old) (S.view source.new) (O.view out.old) (O.view out.new) }
+    // What the macro after the settings does was written, up to its end or to the first action that isn't legal.
+    ensures replay { AskTo Command.Replay words.now → IsResult result
+        → ReadsAndWrites ReplayAnswers result (S.view source.old) (S.view source.new) (O.view out.old) (O.view out.new) }
+    // Whether the macro after the settings is the best one was written.
+    ensures check { (asked : AskTo Command.Check words.now) → IsResult result
+        → ReadsAndWrites (CheckAnswers asked.given) result (S.view source.old) (S.view source.new) (O.view out.old) (O.view out.new) }
 
     // Of every command.
     // It is answered, with a result or a refusal, unless a read or a write fails or memory runs out.
@@ -139,6 +156,9 @@ fn answer_to<G: Gate>(
     match given.command {
         Command::Solve => solve(rt, alloc, given, input, gate),
         Command::Sample(n) => sample(rt, alloc, given, n, gate),
+        Command::Sweep => sweep(rt, alloc, given, input, gate),
+        Command::Replay => replay(alloc, input),
+        Command::Check => check(rt, alloc, given, input, gate),
     }
 }
 
@@ -147,7 +167,7 @@ fn most_of(command: Command) -> usize
     ensures { result ≡ most_of command }
 {
     match command {
-        Command::Solve => READ_MOST,
+        Command::Solve | Command::Sweep | Command::Replay | Command::Check => READ_MOST,
         Command::Sample(_) => 0,
     }
 }

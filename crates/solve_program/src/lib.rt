@@ -1,14 +1,14 @@
 //! The program over a process: its words, and its standard input, output and error.
 #![tactic(auto)]
 
-ghost use Rattle.std.specs.Prelude.{◌≡◌, ◌≢◌, ◌↔◌};
+ghost use Rattle.std.specs.Prelude.{◌≡◌, ◌≢◌, ◌≤◌, ◌↔◌};
 ghost use Rattle.run_io.specs.Statuses.{code_of};
-ghost use Rattle.solve_engine.specs.Words.{AreBad, AskToSolve};
+ghost use Rattle.solve_engine.specs.Commands.{most_for};
+ghost use Rattle.solve_engine.specs.Words.{AreBad};
 
 use craft_io::{StdSink, StdSource};
+use program_words::words;
 use solve_engine::{Status, run};
-use std::alloc::AllocError;
-use std::env;
 use std::env::Env;
 use std::io::{Read, Write};
 use std::thread::Threads;
@@ -40,7 +40,7 @@ fn answer<R: AllocGlobal + Threads + Sync, I: Read + Drop, O: Write + Drop, E: W
 ) -> u8
     ensures status { (status : Status) × (result ≡ code_of status) }
     ensures bad_words { (result ≡ code_of Status.BadWords) ↔ (AreBad words.now × (result ≢ code_of Status.WantMemory)) }
-    ensures bad_settings { result ≡ code_of Status.BadSettings → AskToSolve words.now }
+    ensures bad_settings { result ≡ code_of Status.BadSettings → 1 ≤ most_for words.now }
 {
     let mut source = StdSource::new(input);
     let mut out = StdSink::new(output);
@@ -55,12 +55,4 @@ fn answer<R: AllocGlobal + Threads + Sync, I: Read + Drop, O: Write + Drop, E: W
         &FreeGate,
     );
     status.code()
-}
-
-// The words after the program's name.
-fn words<R: Env + AllocGlobal>(rt: &R) -> Result<Vec<String>, AllocError> {
-    let Ok(all) = env::args(rt) else {
-        return Err(AllocError);
-    };
-    all.skip(1).collect(rt.alloc())
 }

@@ -10,7 +10,7 @@ use Rattle.craft_settings.specs.Ranges.{IsFromTo}
 use Rattle.sample_craft.specs.Sample.{most_number}
 use Rattle.replay_report.specs.declared.style.Report.{Report}
 use Rattle.solve_words.specs.declared.words.Command.{Command}
-use Rattle.solve_words.specs.declared.words.Command.TheVariants.{Solve, Sample}
+use Rattle.solve_words.specs.declared.words.Command.TheVariants.{Solve, Sample, Sweep, Replay, Check}
 use Rattle.solve_words.specs.declared.words.Words.{Words}
 
 abbrev pub words_read : Command → Option ℕ → Option ℕ → Option Report → Option Words
@@ -24,23 +24,29 @@ words_given command given =
     words_read command (number_or (value_of (codes "workers") given) default_workers) (number_or (value_of (codes "grain") given) default_grain)
     (report_or (value_of (codes "report") given))
 
--- what a command with options of these names and these words after it says
-abbrev pub words_with : Command → List Text → List Text → Option Words
-words_with command names words = option_and_then (words_given command) (given_in names words)
+-- the names of each command's options
+abbrev pub options_of : Command → List Text
+options_of Solve = codes "workers" ∷ codes "grain" ∷ codes "report" ∷ []
+options_of (Sample number) = codes "workers" ∷ codes "grain" ∷ []
+options_of Sweep = codes "workers" ∷ codes "grain" ∷ []
+options_of Replay = []
+options_of Check = codes "workers" ∷ codes "grain" ∷ []
 
--- what the words after `solve` say: options
-abbrev pub after_solve : List Text → Option Words
-after_solve words = words_with Solve (codes "workers" ∷ codes "grain" ∷ codes "report" ∷ []) words
+-- what a command with these words after it says: options
+abbrev pub words_with : Command → List Text → Option Words
+words_with command words = option_and_then (words_given command) (given_in (options_of command) words)
 
 -- what the words after `sample` say: the sample's number, and then options
 abbrev pub after_sample : List Text → Option Words
 after_sample [] = None
 after_sample (number ∷ rest) =
-    option_and_then (λ n. words_with (Sample n) (codes "workers" ∷ codes "grain" ∷ []) rest) (sample_number_of number)
+    option_and_then (λ n. words_with (Sample n) rest) (sample_number_of number)
 
 -- the commands, each with what the words after it say
 abbrev pub command_table : List (Text × (List Text → Option Words))
-command_table = (codes "solve", after_solve) ∷ (codes "sample", after_sample) ∷ []
+command_table =
+    (codes "solve", words_with Solve) ∷ (codes "sample", after_sample) ∷ (codes "sweep", words_with Sweep)
+    ∷ (codes "replay", words_with Replay) ∷ (codes "check", words_with Check) ∷ []
 
 -- what the words say; none where they are not of the form
 abbrev pub words_of : List Text → Option Words
@@ -49,8 +55,8 @@ words_of (first ∷ rest) = option_and_then (λ row. row.1 rest) (find (λ row. 
 
 -- the number of a sample is in its range
 abbrev pub HasSample : Command → Type 0
-HasSample Solve = ⊤
 HasSample (Sample number) = number ≤ most_number
+HasSample _ = ⊤
 
 -- the numbers of the words are in their ranges
 pub record AreInRange (words : Words) : Type 0 where

@@ -8,6 +8,7 @@ ghost use Rattle.solve_words.specs.Clap.{app};
 ghost use Rattle.solve_words.specs.Form.{given_in, is_stray as stray};
 ghost use Rattle.solve_words.specs.Words.{AreInRange, FindsOptions, HasSample, after_sample, words_with, words_of};
 
+mod best;
 mod fault;
 pub mod laws;
 #[cfg(test)]
@@ -16,6 +17,7 @@ mod values;
 mod words;
 
 use action_table::WantMemory;
+pub use best::read_best_words;
 use clap::{Arg, ArgAction, ArgMatches};
 pub use fault::WordsFault;
 use fault::fault_for;
@@ -29,9 +31,10 @@ const DEFAULT_WORKERS: u32 = 4;
 const DEFAULT_GRAIN: u32 = 16;
 
 /// Reads the words after the program's name: a command and then its options in any order, each at
-/// most once, as `--name value` or `--name=value`. The command is `solve`, or `sample` and the sample's number of one
-/// to six digits with no leading 0 unless it is `0`. Both have `--workers` and `--grain` of 1 to 64, and `solve` has
-/// `--report` as `plain`, `limits` or `levels`. BadWords comes for all other words, and for no others.
+/// most once, as `--name value` or `--name=value`. The command is `solve`, `sweep`, `replay`, `check`, or `sample` and
+/// the sample's number of one to six digits with no leading 0 unless it is `0`. All but `replay` have `--workers` and
+/// `--grain` of 1 to 64, and `solve` has `--report` as `plain`, `limits` or `levels`. BadWords comes for all other
+/// words, and for no others.
 pub fn read_words(alloc: Global, words: &[String]) -> Result<Words, WordsFault>
     ensures ok { IfOk result (λ read. words_of (map string_bytes words.now) ≡ Some read) }
     ensures range { IfOk result AreInRange }
@@ -40,12 +43,13 @@ pub fn read_words(alloc: Global, words: &[String]) -> Result<Words, WordsFault>
     let Some((first, rest)) = words.split_first() else {
         return Err(WordsFault::BadWords);
     };
-    if first.as_str() == "solve" {
-        with_options(alloc, Command::Solve, &["workers", "grain", "report"], rest)
-    } else if first.as_str() == "sample" {
-        read_sample(alloc, rest)
-    } else {
-        Err(WordsFault::BadWords)
+    match first.as_str() {
+        "solve" => with_options(alloc, Command::Solve, rest),
+        "sample" => read_sample(alloc, rest),
+        "sweep" => with_options(alloc, Command::Sweep, rest),
+        "replay" => with_options(alloc, Command::Replay, rest),
+        "check" => with_options(alloc, Command::Check, rest),
+        _ => Err(WordsFault::BadWords),
     }
 }
 
@@ -60,24 +64,20 @@ fn read_sample(alloc: Global, words: &[String]) -> Result<Words, WordsFault>
     let Some(number) = sample_number(number.as_str()) else {
         return Err(WordsFault::BadWords);
     };
-    with_options(alloc, Command::Sample(number), &["workers", "grain"], rest)
+    with_options(alloc, Command::Sample(number), rest)
 }
 
-// The command with the options that the words give it, of those with these names.
-fn with_options(
-    alloc: Global,
-    command: Command,
-    names: &[&str],
-    words: &[String],
-) -> Result<Words, WordsFault>
+// The command with the options that the words give it.
+fn with_options(alloc: Global, command: Command, words: &[String]) -> Result<Words, WordsFault>
     requires { HasSample command }
-    ensures form { MatchResult result (λ read. words_with command (map (λ s. s.now) names.now) (map string_bytes words.now) ≡ Some read) (λ e. e ≡ WordsFault.BadWords → words_with command (map (λ s. s.now) names.now) (map string_bytes words.now) ≡ None) }
+    ensures form { MatchResult result (λ read. words_with command (map string_bytes words.now) ≡ Some read)
+        (λ e. e ≡ WordsFault.BadWords → words_with command (map string_bytes words.now) ≡ None) }
     ensures range { IfOk result AreInRange }
 {
     if has_stray(words) {
         return Err(WordsFault::BadWords);
     }
-    let matches = options(alloc, names, words)?;
+    let matches = options(alloc, command.option_names(), words)?;
     let Some(workers) = number_or(matches.get_str("workers"), DEFAULT_WORKERS) else {
         return Err(WordsFault::BadWords);
     };

@@ -10,7 +10,7 @@ const DEFAULT: Words = Words {
 };
 
 // Words of the form, and what they say.
-const ACCEPTED: [(&[&str], Words); 8] = [
+const ACCEPTED: [(&[&str], Words); 12] = [
     (&["solve"], DEFAULT),
     (
         &["solve", "--workers=64", "--report", "limits"],
@@ -68,9 +68,41 @@ const ACCEPTED: [(&[&str], Words); 8] = [
             ..DEFAULT
         },
     ),
+    (
+        &["replay"],
+        Words {
+            command: Command::Replay,
+            ..DEFAULT
+        },
+    ),
+    (
+        &["check"],
+        Words {
+            command: Command::Check,
+            ..DEFAULT
+        },
+    ),
+    (
+        &["check", "--grain=2", "--workers", "64"],
+        Words {
+            command: Command::Check,
+            workers: 64,
+            grain: 2,
+            ..DEFAULT
+        },
+    ),
+    (
+        &["sweep", "--workers=1", "--grain", "63"],
+        Words {
+            command: Command::Sweep,
+            workers: 1,
+            grain: 63,
+            ..DEFAULT
+        },
+    ),
 ];
 
-const REFUSED: [&[&str]; 21] = [
+const REFUSED: [&[&str]; 29] = [
     &[],
     &[""],
     &["Solve"],
@@ -92,6 +124,14 @@ const REFUSED: [&[&str]; 21] = [
     &["sample", "--workers", "2", "1"],
     &["sample", "1", "2"],
     &["sample", "1", "--"],
+    &["replay", "--workers", "1"],
+    &["replay", "--grain=1"],
+    &["replay", "replay"],
+    &["replay", "--"],
+    &["check", "--report", "plain"],
+    &["check", "--grain", "1", "--grain=1"],
+    &["sweep", "--report=plain"],
+    &["sweep", "1"],
 ];
 
 const NO_COUNTS: [&str; 9] = ["", "0", "65", "04", "-1", "+1", "100", "1 ", "x"];

@@ -1,3 +1,6 @@
+ghost use Rattle.std.specs.Prelude.{◌≡◌, map};
+ghost use Rattle.solve_words.specs.Words.{options_of};
+
 use replay_report::Report;
 
 /// What the program is asked to do.
@@ -7,6 +10,25 @@ pub enum Command {
     Solve,
     /// Find the best macro for the sample craft with this number, at most 999999.
     Sample(u32),
+    /// Find the least base quality that is enough for the settings that are read.
+    Sweep,
+    /// Play the macro text that follows the settings.
+    Replay,
+    /// Tell whether that macro is the best one.
+    Check,
+}
+
+impl Command {
+    // The names of its options.
+    pub(crate) fn option_names(self) -> &'static [&'static str]
+        ensures { map (λ s. s.now) result.now ≡ options_of self }
+    {
+        match self {
+            Command::Solve => &["workers", "grain", "report"],
+            Command::Sample(_) | Command::Sweep | Command::Check => &["workers", "grain"],
+            Command::Replay => &[],
+        }
+    }
 }
 
 /// What the words after the program's name say, with the default of each option that isn't given.

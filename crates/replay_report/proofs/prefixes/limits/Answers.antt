@@ -14,12 +14,12 @@ pub limit_after-requires-clause-within : goal.limit_after-requires-clause-within
 limit_after-requires-clause-within c =
     let g = c.args.g.now in
     let settings = subst AreSettings c.requires.table c.args.shared.now.truth.settings in
-    IsWithin-run g (start_of g) _ _ (IsWithin-start g settings) (state_read g c.args.actions.now c.in_ok-states.states.items (c.loop-place.place + 1) _ c.in_ok-states.ensures (omega arith) c.index.ensures)
+    IsWithin-run g (start_of g) _ _ (IsWithin-start g settings) (state_read g (start_of g) c.args.actions.now c.in_ok-states.states.items (c.loop-place.place + 1) _ c.in_ok-states.ensures (omega arith) c.index.ensures)
 
 pub limit_after-requires-clause-limited : goal.limit_after-requires-clause-limited
 limit_after-requires-clause-limited c =
     limited_on_way c.args.g.now c.args.shared.now.truth.grain c.args.actions.now (c.loop-place.place + 1) _ (omega arith) (omega arith) c.requires.limited c.requires.complete
-    (state_read c.args.g.now c.args.actions.now c.in_ok-states.states.items (c.loop-place.place + 1) _ c.in_ok-states.ensures (omega arith) c.index.ensures)
+    (state_read c.args.g.now (start_of c.args.g.now) c.args.actions.now c.in_ok-states.states.items (c.loop-place.place + 1) _ c.in_ok-states.ensures (omega arith) c.index.ensures)
 
 pub loop-place-preserved : goal.loop-place-preserved
 loop-place-preserved c =
@@ -28,7 +28,7 @@ loop-place-preserved c =
     let actions = c.args.actions.now in
     let place = c.loop-place.place in
     let before = c.loop-place.limits.items in
-    let ran = state_read g actions c.in_ok-states.states.items (place + 1) _ c.in_ok-states.ensures (omega arith) c.index.ensures in
+    let ran = state_read g (start_of g) actions c.in_ok-states.states.items (place + 1) _ c.in_ok-states.ensures (omega arith) c.index.ensures in
     let is : IsNumber g grain _ (Some c.limit_after.result) = record {
       going = c.limit_after.ensures.going;
       done = λ complete. ap Some (c.limit_after.ensures.complete complete);
