@@ -20,27 +20,55 @@ pub struct Row {
 }
 
 impl Row {
-    pub(crate) fn of(
-        level: u32,
-        cp: u32,
-        combo_cp: u32,
-        durability: u32,
-        progress: u32,
-        quality: u32,
-        seconds: u32,
-        stacks: u32,
-    ) -> Row
-        ensures { result ≡ table_row level cp combo_cp durability progress quality seconds stacks }
+    /// An effect that is put up: two seconds, and nothing else.
+    pub(crate) fn buff(level: u32, cp: u32) -> Row
+        ensures { result ≡ table_row level cp cp 0 0 0 2 0 }
+    {
+        Row {
+            seconds: 2,
+            ..Row::rest(level, cp)
+        }
+    }
+
+    /// An action that wears nothing and adds nothing by itself.
+    pub(crate) fn rest(level: u32, cp: u32) -> Row
+        ensures { result ≡ table_row level cp cp 0 0 0 3 0 }
+    {
+        Row::synthesis(level, cp, 0, 0)
+    }
+
+    pub(crate) fn synthesis(level: u32, cp: u32, durability: u32, progress: u32) -> Row
+        ensures { result ≡ table_row level cp cp durability progress 0 3 0 }
     {
         Row {
             level,
             cp,
-            combo_cp,
+            combo_cp: cp,
             durability,
             progress,
+            quality: 0,
+            seconds: 3,
+            stacks: 0,
+        }
+    }
+
+    pub(crate) fn touch(level: u32, cp: u32, durability: u32, quality: u32, stacks: u32) -> Row
+        ensures { result ≡ table_row level cp cp durability 0 quality 3 stacks }
+    {
+        Row {
             quality,
-            seconds,
             stacks,
+            ..Row::synthesis(level, cp, durability, 0)
+        }
+    }
+
+    /// The row whose price after the first action of its combo is 18.
+    pub(crate) fn in_combo(self) -> Row
+        ensures { result ≡ table_row self.level self.cp 18 self.durability self.progress self.quality self.seconds self.stacks }
+    {
+        Row {
+            combo_cp: 18,
+            ..self
         }
     }
 }

@@ -1,6 +1,6 @@
 -- The limits of the next state, and of the last.
 use Rattle.std.proofs.Common.{ℕ, Bool, true, false, [], Option, Some, None, ◌≡◌, ◌≤◌, ◌<◌, ◌+◌, ◌-◌, ◌*◌, ◌/◌, ◌%◌, ◌||◌, ◌==◌, nat_lt, nat_le, min, refl, ◌∙◌, sym, subst, arith, if◌then◌else◌}
-use Rattle.plain_lemmas.proofs.Tests.{eq_from}
+use Rattle.plain_lemmas.proofs.Tests.{eq_from, or_none}
 use Rattle.std.specs.Option.{option_map}
 use Rattle.std.proofs.lemmas.Nat.{div-add-mod', mul-le, div_below}
 use Rattle.action_table.specs.declared.action.Action.{Action}
@@ -22,8 +22,10 @@ use Rattle.relaxed_moves.proofs.Plans.{map_le, worth-nil, best_plan-move, best_p
 use Rattle.relaxed_moves.proofs.Order.{best_plan-no_better, AreRelaxed-move_on, AreRelaxed-relax}
 use Rattle.relaxed_moves.proofs.Costs.{ArePriced-cost, ArePriced-one, unit_positive}
 use Rattle.admissible.specs.Laws.{GoesOn, Finishes}
-use Rattle.admissible.proofs.Potential.{potential-step, potential_falls, lift-none, allowed-now, potential-strength, strength, combo_cost}
+use Rattle.admissible.proofs.Potential.{potential-step, potential_falls, lift-none, allowed-now, potential-strength, strength}
 use Rattle.admissible.proofs.Relaxing.{opens, opens-not, relaxed-step, quality-step, rest-worse, rest-gain, rest-progress, IsNoBetter-trans, moves-legal, progress-le, quality-le}
+use Rattle.plain_lemmas.proofs.Numbers.{some_fives, made_progress}
+use Rattle.relaxed_moves.proofs.RestPrices.{combo_cost}
 
 -- what a move adds to the best plan after it
 law-move : (price : Action → ℕ) (g : SettingsFields) (grain budget budget' : ℕ) (x x' : RelaxedFields) (a : Action) →
@@ -94,7 +96,7 @@ capped-le g s s' gain o None more h = tt
 capped-le g s s' gain None (Some b) more h = absurd h
 capped-le g s s' gain (Some a) (Some b) more h = omega arith
 
-capped-most : (g : SettingsFields) (s : StateFields) (o : Option ℕ) → option_le (capped g s o) (Some (cap_of g))
+pub capped-most : (g : SettingsFields) (s : StateFields) (o : Option ℕ) → option_le (capped g s o) (Some (cap_of g))
 capped-most g s None = tt
 capped-most g s (Some a) = omega arith
 
@@ -142,17 +144,6 @@ pub record Last (g : SettingsFields) (grain : ℕ) (s : StateFields) (a : Action
   pub first : s.effects.first ≡ false
   pub low : 1 ≤ grain
 
-made_progress : (c : Bool) (m n p : ℕ) → (if c then m else n) ≡ p → (n == p) ≡ false → c ≡ true
-made_progress true m n p h k = refl
-made_progress false m n p h k = grind arith
-
-or_none : (a b : Bool) → (a || b) ≡ false → (a ≡ false) × (b ≡ false)
-or_none true b h = absurd (cc)
-or_none false b h = (refl, h)
-
-some_left : (d : ℕ) → (d == 0) ≡ false → d % 5 ≡ 0 → 1 ≤ d / 5
-some_left d h fives = grind arith
-
 no_gain : (n : ℕ) → n ≡ 0 → nat_lt 0 n ≡ true → ⊥
 no_gain n none h = grind arith
 
@@ -173,7 +164,7 @@ last-paid : (g : SettingsFields) (s : StateFields) (a : Action) → IsWithin g s
 unfolding cost_of
 last-paid g s a within facts allowed some =
     let over = overdraw g a allowed some in
-    let left : 1 ≤ s.durability / 5 = some_left s.durability (or_none (s.progress == g.progress) (s.durability == 0) facts.live).1 within.state.fives in
+    let left : 1 ≤ s.durability / 5 = some_fives s.durability (or_none (s.progress == g.progress) (s.durability == 0) facts.live).1 within.state.fives in
     let worth : rho_of g ≤ rho_of g * strength s = spare (rho_of g) (strength s) (omega arith) in
     let combo = combo_cost a g.level s.effects.combo in
     rw (potential-strength g s) (omega (arith, over, worth, combo, facts.paid))

@@ -7,7 +7,6 @@ use Rattle.std.proofs.Math.Nat.{mul-le-mul_left}
 use Rattle.action_table.specs.declared.action.Action.{Action}
 use Rattle.action_table.specs.declared.action.Action.TheVariants.{BasicSynthesis, MastersMend, ImmaculateMend, Manipulation, WasteNot, WasteNotII, TrainedPerfection}
 use Rattle.action_table.specs.Table.{row_of}
-use Rattle.craft_state.specs.declared.Combo.{Combo}
 use Rattle.craft_state.specs.Craft.{EffectFields, StateFields}
 use Rattle.craft_settings.specs.Ranges.{SettingsFields}
 use Rattle.craft_settings.specs.Rules.{is_allowed}
@@ -18,6 +17,8 @@ use Rattle.step_rules.proofs.LegalFacts.{legal_facts, effects_allow}
 use Rattle.relaxed_moves.specs.Budget.{rho_of, sigma_of, slack_of, is_spent, wear_cost, cost_of, potential_of}
 use Rattle.relaxed_moves.specs.Moves.{is_listed}
 use Rattle.admissible.specs.Laws.{GoesOn}
+use Rattle.plain_lemmas.proofs.Numbers.{fives_less, outlasts}
+use Rattle.relaxed_moves.proofs.RestPrices.{rho-manipulation, rho-mend, sigma-waste, sigma-waste_more, combo_cost}
 
 -- the worth of a state in fives of durability
 abbrev pub strength : StateFields → ℕ
@@ -78,15 +79,11 @@ unfolding settled_of tick_of after_of
 waste-settled g before BasicSynthesis s same = grind arith
 waste-settled g before _ s same = grind arith
 
--- the durability that a going step leaves
-outlasts : (x : Bool) (d w : ℕ) → (x || (d - w == 0)) ≡ false → d % 5 ≡ 0 → w % 5 ≡ 0 → (w ≤ d) × (5 ≤ d - w)
-outlasts x d w live fives wears = (grind arith, grind arith)
-
-wear_fives : (g : SettingsFields) (s : StateFields) (a : Action) → wear_at g s a % 5 ≡ 0
+pub wear_fives : (g : SettingsFields) (s : StateFields) (a : Action) → wear_at g s a % 5 ≡ 0
 wear_fives g s BasicSynthesis = grind arith
 wear_fives g s _ = grind arith
 
-lasting : (g : SettingsFields) (s : StateFields) (a : Action) → is_over g (acted_of g s a) ≡ false → s.durability % 5 ≡ 0 →
+pub lasting : (g : SettingsFields) (s : StateFields) (a : Action) → is_over g (acted_of g s a) ≡ false → s.durability % 5 ≡ 0 →
     (wear_at g s a ≤ s.durability) × (5 ≤ s.durability - wear_at g s a)
 unfolding acted_of
 lasting g s a live fives = outlasts _ s.durability (wear_at g s a) live fives (wear_fives g s a)
@@ -108,21 +105,14 @@ unfolding acted_of
 ready-acted g s TrainedPerfection ready e = grind arith
 ready-acted g s _ ready e = absurd (cc)
 
-acted-parts : (g : SettingsFields) (s : StateFields) (a : Action) →
+pub acted-parts : (g : SettingsFields) (s : StateFields) (a : Action) →
     ((acted_of g s a).durability ≡ s.durability - wear_at g s a) × ((acted_of g s a).effects.manipulation ≡ s.effects.manipulation) × ((acted_of g s a).effects.waste ≡ s.effects.waste) × ((acted_of g s a).cp ≡ s.cp - cp_cost_of a g.level s.effects.combo)
 unfolding acted_of
 acted-parts g s a = (refl, refl, refl, refl)
 
-settled-cp : (g : SettingsFields) (before : EffectFields) (a : Action) (s : StateFields) → (settled_of g before a s).cp ≡ s.cp
+pub settled-cp : (g : SettingsFields) (before : EffectFields) (a : Action) (s : StateFields) → (settled_of g before a s).cp ≡ s.cp
 unfolding settled_of
 settled-cp g before a s = refl
-
-fives_less : (d w : ℕ) → d % 5 ≡ 0 → w % 5 ≡ 0 → w ≤ d → (d - w) % 5 ≡ 0
-fives_less d w h k le = omega arith
-
-pub combo_cost : (a : Action) (level : ℕ) (combo : Combo) → (row_of a level).combo_cp ≤ cp_cost_of a level combo
-combo_cost BasicSynthesis level combo = grind arith
-combo_cost _ level combo = grind arith
 
 charge : (rho sigma cp cp' price h h' u l w w' t k : ℕ) → cp' + price ≤ cp → h' + u ≤ h + l → w' + t ≤ w + k →
     cp' + rho * h' + sigma * w' + (price + (rho * u + sigma * t)) ≤ cp + rho * h + sigma * w + (rho * l + sigma * k)
@@ -164,26 +154,10 @@ potential-step g s a step =
     rw (step-settled g s a going, potential-strength g (settled_of g s.effects a (acted_of g s a)), potential-strength g s)
     (omega (arith, total, cheap))
 
-rho-manipulation : (g : SettingsFields) → is_allowed g Manipulation ≡ true → rho_of g ≤ 12
-unfolding rho_of
-rho-manipulation g allowed = rw allowed (omega arith)
-
-rho-mend : (g : SettingsFields) → is_allowed g ImmaculateMend ≡ true → rho_of g ≤ 112 / (g.durability / 5 - 1)
-unfolding rho_of
-rho-mend g allowed = rw allowed (omega arith)
-
 whole_mend : (rho n : ℕ) → rho ≤ 112 / n → rho * n ≤ 112
 whole_mend rho n h =
     let a : rho * n ≤ 112 / n * n = mul-le rho n (112 / n) n h (omega arith) in
     omega (arith, div-add-mod' 112 n)
-
-sigma-waste : (g : SettingsFields) → is_allowed g WasteNot ≡ true → sigma_of g ≤ 14
-unfolding sigma_of
-sigma-waste g allowed = rw allowed (grind arith)
-
-sigma-waste_more : (g : SettingsFields) → is_allowed g WasteNotII ≡ true → sigma_of g ≤ 12
-unfolding sigma_of
-sigma-waste_more g allowed = rw allowed (omega arith)
 
 -- what an action adds is paid by its CP
 pub lift-paid : (g : SettingsFields) (a : Action) → is_allowed g a ≡ true → lift_worth g a ≤ (row_of a g.level).combo_cp

@@ -1,5 +1,5 @@
 -- States that are reached have no more potential than the start, and no macro beats a limit on its way.
-use Rattle.std.proofs.Common.{ℕ, suc, Bool, true, false, List, [], ◌∷◌, Option, Some, None, ◌≡◌, ◌≤◌, ◌+◌, ◌-◌, ◌*◌, ◌/◌, ◌||◌, ◌==◌, nat_lt, nat_le, length, refl, sym, subst, arith, if◌then◌else◌}
+use Rattle.std.proofs.Common.{ℕ, Bool, true, false, List, [], ◌∷◌, Option, Some, None, ◌≡◌, ◌≤◌, ◌+◌, ◌-◌, ◌*◌, ◌/◌, ◌||◌, ◌==◌, nat_lt, nat_le, length, refl, sym, subst, arith, if◌then◌else◌}
 use Rattle.step_rules.proofs.MeasureFalls.{durability-acted}
 use Rattle.plain_lemmas.proofs.Tests.{some_same, clash}
 use Rattle.std.proofs.Math.Nat.{mul-le-mul_left}
@@ -170,7 +170,7 @@ pub within-run : (g : SettingsFields) (grain : ℕ) (s t : StateFields) (m : Lis
 within-run g grain s t m low within first live h done = within-enough g grain s t m (length m) low within first live h done (omega arith)
 
 -- a state that isn't less has no lower limits
-ap_le : (f : EffectFields → ℕ) (e e' : EffectFields) → e ≡ e' → f e ≤ f e'
+pub ap_le : (f : EffectFields → ℕ) (e e' : EffectFields) → e ≡ e' → f e ≤ f e'
 ap_le f e e' same = subst (λ u. f e ≤ f u) same (omega arith)
 
 not_weaker : (a b : StateFields) → IsNotLess a b → strength b ≤ strength a

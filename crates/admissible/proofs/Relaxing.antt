@@ -8,17 +8,18 @@ use Rattle.action_table.specs.Table.{row_of}
 use Rattle.craft_numbers.specs.Gains.{progress_gain_of}
 use Rattle.craft_state.specs.declared.Combo.{Combo}
 use Rattle.craft_state.specs.declared.Combo.TheVariants.{Basic}
-use Rattle.craft_state.specs.Craft.{EffectFields, StateFields, AreEffects}
+use Rattle.craft_state.specs.Craft.{EffectFields, StateFields}
 use Rattle.craft_settings.specs.Ranges.{SettingsFields}
 use Rattle.craft_settings.specs.Rules.{is_allowed}
 use Rattle.combo_effects.specs.Combos.{tick_of, after_of}
 use Rattle.combo_effects.specs.Touches.{stacks_of, iq_after}
 use Rattle.step_rules.specs.Legality.{effect_reason}
 use Rattle.step_rules.specs.Step.{progress_efficiency, touch_gain, progress_after, quality_after, used_effects, acted_of, settled_of, step_of}
-use Rattle.relaxed_moves.specs.Moves.{RelaxedFields, AreRelaxed, IsNoBetter, is_listed, has_stacks, is_move_of, unit_of, relax_of, move_gain_of, move_innovation, move_veneration, move_strides, move_progress, move_on_of}
+use Rattle.relaxed_moves.specs.Moves.{RelaxedFields, IsNoBetter, is_listed, has_stacks, is_move_of, unit_of, relax_of, move_gain_of, move_innovation, move_veneration, move_strides, move_progress, move_on_of}
 use Rattle.relaxed_moves.proofs.Order.{div-more, progress_gain-more}
 use Rattle.admissible.specs.Laws.{GoesOn}
 use Rattle.admissible.proofs.Potential.{goes-acted, step-settled}
+use Rattle.plain_lemmas.proofs.Numbers.{gained}
 
 -- the actions that only a first step may be
 abbrev pub opens : Action → Bool
@@ -90,10 +91,6 @@ step-muscle g e a later h = on-less (nat_lt 0 (row_of a g.level).progress) e.mus
 efficiency-le : (g : SettingsFields) (s : StateFields) (a : Action) → progress_efficiency g s a ≤ (row_of a g.level).progress
 efficiency-le g s Groundwork = grind arith
 efficiency-le g s _ = omega arith
-
-gained : (c : Bool) (p n x y : ℕ) → x ≤ y → (if c then min p (n + x) else n) ≤ n + y
-gained true p n x y h = omega arith
-gained false p n x y h = omega arith
 
 pub progress-le : (g : SettingsFields) (grain : ℕ) (s : StateFields) (a : Action) → progress_after g s a ≤ s.progress + move_progress g (relax_of g grain s) a
 unfolding relax_of

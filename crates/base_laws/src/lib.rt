@@ -6,6 +6,8 @@ ghost use Rattle.std.specs.List.{range_with_len};
 ghost use Rattle.action_table.specs.Table.{all_actions, number_of};
 ghost use Rattle.craft_settings.specs.Keys.{places, row_of, rows, trained_eye_key};
 ghost use Rattle.relaxed_moves.specs.declared.places.TheConstants.{BUCKET_STATES, MOST_BUDGET, MOST_MOVES};
+ghost use Rattle.craft_settings.specs.declared.reader.TheConstants.{MAX_LENGTH};
+ghost use Rattle.run_io.specs.declared.reading.TheConstants.{READ_MOST};
 ghost use Rattle.step_rules.specs.declared.legality.TheConstants.{MOST_STEPS};
 
 /// There are 26 actions, and their list is in the action order.
@@ -14,12 +16,14 @@ pub fn order_law()
 {}
 
 /// No macro has more than 272 steps; the tables of bounds have budgets up to 1378 and up to 63 moves, and 1100 relaxed
-/// states in a bucket.
+/// states in a bucket; a settings file has at most 65536 bytes, and one byte more is read of an input.
 pub fn numbers_law()
     ensures steps { MOST_STEPS ≡ 272 }
     ensures budget { MOST_BUDGET ≡ 1378 }
     ensures moves { MOST_MOVES ≡ 63 }
     ensures states { BUCKET_STATES ≡ 1100 }
+    ensures length { MAX_LENGTH ≡ 65536 }
+    ensures read { READ_MOST ≡ 65537 }
 {}
 
 /// The second version of the settings has the whole list of keys, and the first the same list without

@@ -19,7 +19,7 @@ use Rattle.plain_lemmas.proofs.Lists.{Among}
 use Rattle.prefix_fronts.proofs.Members.{IsPrefixAt, prefix-facts, start-open, prefix-next, seconds_of-snoc}
 use Rattle.prefix_fronts.proofs.Dominance.{goes_on-by}
 use Rattle.prefix_fronts.proofs.Best.{score-says}
-use Rattle.plain_lemmas.proofs.Tests.{clash, some_same}
+use Rattle.plain_lemmas.proofs.Tests.{clash, some_same, le_or}
 use Rattle.admissible.proofs.Reached.{ran, complete_over, first-step, limit-run, within-enough, over-run}
 use Rattle.certificate_text.specs.declared.verdict.Verdict.{Verdict}
 use Rattle.certificate_text.specs.declared.verdict.Verdict.TheVariants.{Complete, Failed, Limited, Late, Dominated, Kept}
@@ -29,9 +29,6 @@ use Rattle.certificate_text.specs.Text.{Certificate}
 use Rattle.prefix_fronts.proofs.Replaced.{ends_with, replaced-better}
 use Rattle.certificate_laws.proofs.Winning.{Wins, below-clash, at-most, wins-quality, wins-steps, wins-through, no-more}
 use Rattle.certificate_laws.proofs.Rows.{verdict-at, next-prefixes, slice_get-Among}
-
-le_or : (a b : ℕ) → (a ≤ b) ⊎ (b < a)
-le_or a b = grind arith
 
 -- a macro that goes through a legal child of a kept prefix
 record Through (claim : Claim) (k : ℕ) (p : Prefix) (a : Action) (r : List Action) (last : StateFields) : Type 0 where

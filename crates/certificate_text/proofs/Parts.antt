@@ -1,8 +1,8 @@
 -- What the parts are, by the first place of the mark.
 use Rattle.std.proofs.Common.{◌≡◌, ◌∙◌, ℕ, suc, ◌+◌, ◌<◌, ◌≤◌, ◌==◌, not, nat_lt, cond, Bool, true, false, List, [], ◌∷◌, Some, None, length, take, drop, refl, ap, arith, subst, if◌then◌else◌}
-use Rattle.std.proofs.lemmas.Bool.Decides.{nat_tests}
 use Rattle.std.specs.List.{position, prefix_len}
 use Rattle.certificate_text.specs.Text.{in_front, parts}
+use Rattle.plain_lemmas.proofs.Tests.{lt_from, not_lt}
 
 -- how many bytes come before the first mark
 abbrev before : ℕ → List ℕ → ℕ
@@ -38,13 +38,7 @@ position-by : (b : Bool) (n place : ℕ) → cond b (Some n) None ≡ Some place
 position-by true n place h = (refl, cc)
 position-by false n place h = cc
 
-less : (a b : ℕ) → nat_lt a b ≡ true → a < b
-less a b h = grind (arith, nat_tests)
-
-not-less : (a b : ℕ) → nat_lt a b ≡ false → b ≤ a
-not-less a b h = grind (arith, nat_tests)
-
-no-position : (b : Bool) (n : ℕ) → cond b (Some n) None ≡ None → b ≡ false
+pub no-position : (b : Bool) (n : ℕ) → cond b (Some n) None ≡ None → b ≡ false
 no-position true n h = cc
 no-position false n h = refl
 
@@ -52,13 +46,13 @@ no-position false n h = refl
 pub parts-at : (mark : ℕ) (bytes : List ℕ) (place : ℕ) → position (λ byte. byte == mark) bytes ≡ Some place → parts mark bytes ≡ take place bytes ∷ parts mark (drop (place + 1) bytes)
 parts-at mark bytes place h =
     let found = position-by (nat_lt (before mark bytes) (length bytes)) (before mark bytes) place h in
-    subst (λ (n : ℕ). parts mark bytes ≡ take n bytes ∷ parts mark (drop (n + 1) bytes)) found.1 (cut-before mark bytes (less _ _ found.0))
+    subst (λ (n : ℕ). parts mark bytes ≡ take n bytes ∷ parts mark (drop (n + 1) bytes)) found.1 (cut-before mark bytes (lt_from _ _ found.0))
 
 -- and is all where there is none
 pub parts-whole : (mark : ℕ) (bytes : List ℕ) → position (λ byte. byte == mark) bytes ≡ None → parts mark bytes ≡ bytes ∷ []
-parts-whole mark bytes h = whole-before mark bytes (not-less _ _ (no-position (nat_lt (before mark bytes) (length bytes)) (before mark bytes) h))
+parts-whole mark bytes h = whole-before mark bytes (not_lt _ _ (no-position (nat_lt (before mark bytes) (length bytes)) (before mark bytes) h))
 
 pub position-less : (mark : ℕ) (bytes : List ℕ) (place : ℕ) → position (λ byte. byte == mark) bytes ≡ Some place → place < length bytes
 position-less mark bytes place h =
     let found = position-by (nat_lt (before mark bytes) (length bytes)) (before mark bytes) place h in
-    omega (arith, found.1, less _ _ found.0)
+    omega (arith, found.1, lt_from _ _ found.0)

@@ -1,6 +1,5 @@
 -- A printed line is that of one number, or of one macro.
 use Rattle.std.proofs.Common.{◌≡◌, ◌∙◌, sym, ℕ, ◌<◌, ◌≤◌, ◌==◌, ◌^◌, Bool, true, false, not, ◌&&◌, List, [], ◌∷◌, ◌++◌, map, drop, refl, ap, arith, codes, if◌then◌else◌}
-use Rattle.std.proofs.lemmas.Bool.Decides.{nat_tests}
 use Rattle.std.proofs.lemmas.List.{append-nil}
 use Rattle.std.specs.List.{list_all, flat_map}
 use Rattle.std.specs.Fmt.{digits, decimal}
@@ -10,6 +9,7 @@ use Rattle.action_table.specs.declared.action.Action.TheVariants.{BasicSynthesis
 use Rattle.action_table.specs.Table.{number_of}
 use Rattle.action_table.proofs.Names.{number_of-injective}
 use Rattle.certificate_text.specs.Text.{space, in_front, parts, first_line, best_line}
+use Rattle.plain_lemmas.proofs.Tests.{same_number}
 
 small : (n : ℕ) → n ≤ 64 → n < 2 ^ 64
 small n h = omega (arith, h)
@@ -30,11 +30,8 @@ at-mark : (b : Bool) (mark : ℕ) (more : List ℕ) → b ≡ true → (if b the
 at-mark true mark more h = refl
 at-mark false mark more h = cc
 
-same-byte : (a : ℕ) → (a == a) ≡ true
-same-byte a = grind (arith, nat_tests)
-
 pub parts-word : (mark : ℕ) (word more : List ℕ) → has_no mark word ≡ true → parts mark (word ++ mark ∷ more) ≡ word ∷ parts mark more
-parts-word mark [] more h = at-mark (mark == mark) mark more (same-byte mark)
+parts-word mark [] more h = at-mark (mark == mark) mark more (same_number mark)
 parts-word mark (x ∷ word) more h = cut-by (x == mark) (has_no mark word) x word more mark h (parts-word mark word more)
 
 last-by : (b : Bool) (rest : Bool) (x : ℕ) (word : List ℕ) (mark : ℕ) → (not b && rest) ≡ true → (rest ≡ true → parts mark word ≡ word ∷ []) →

@@ -1,6 +1,5 @@
 -- Reading a row word by word.
 use Rattle.std.proofs.Common.{◌≡◌, ◌∙◌, sym, ℕ, suc, ◌+◌, ◌<◌, ◌≤◌, ◌==◌, Bool, true, false, List, [], ◌∷◌, ◌++◌, append_assoc, length, length-drop, ◌-◌, min, map, take, drop, get_or, Some, None, refl, ap, subst, arith, if◌then◌else◌}
-use Rattle.std.proofs.lemmas.Bool.Decides.{nat_tests}
 use Rattle.std.specs.List.{position}
 use Rattle.std.specs.Str.Parse.{digits_value}
 use Rattle.certificate_text.specs.declared.verdict.Verdict.TheVariants.{Dominated}
@@ -146,6 +145,3 @@ placed word place some first digits is =
     let number : is_number (drop 1 word) ≡ true = subst (λ (l : List ℕ). is_number l ≡ true) e digits in
     let same : place ≡ min (digits_value 10 (drop 1 word)) MOST_NUMBER = is ∙ ap (λ (l : List ℕ). min (digits_value 10 l) MOST_NUMBER) e in
     (Dominated (digits_value 10 (drop 1 word)), ((drop 1 word, headed word 100 some first, record { digits = number; value = refl }), ap Dominated same))
-
-pub some-bytes : (n : ℕ) → false ≡ (n == 0) → 0 < n
-some-bytes n h = grind (arith, nat_tests)

@@ -24,7 +24,9 @@ pub fn cp_cost(action: Action, level: u32, combo: Combo) -> u32
     }
 }
 
-/// The durability that an action wears under the effects, from the `durability` of its row.
+/// The durability that an action wears under the effects, in points. `durability` is that of its row, a multiple of 5
+/// of at most 20. Under Waste Not it is half of that, rounded up to a multiple of 5, and 0 where Trained Perfection is
+/// on.
 pub fn wear(durability: u32, effects: &Effects) -> u32
     requires range { durability ≤ 20 }
     requires fives { durability % 5 ≡ 0 }

@@ -6,7 +6,9 @@ ghost use Rattle.craft_io.specs.Causes.{CountsFault, most_count};
 use crate::{Failed, Sink, Source};
 use std::io::{Read, Write};
 
-/// What a reader of std gives.
+/// A source over a reader of std, as standard input. It tells the bytes still to come where the reader tells them, so
+/// that a failed read can't be told as their end; standard input tells none. A read that the reader refuses is one
+/// fault more, and isn't tried again.
 #[derive(Drop)]
 pub struct StdSource<R: Read + Drop> {
     reader: R,
@@ -49,7 +51,9 @@ impl<R: Read + Drop> Source for StdSource<R> {
     ghost counts = { λ s. s.counts };
 }
 
-/// What a writer of std takes.
+/// A sink over a writer of std, as standard output. It flushes after each write. A write is one fault more where the
+/// writer refuses it, takes nothing or can't be flushed after it, and isn't tried again. It tells none of its bytes,
+/// since a writer may take some and then fail to be flushed.
 #[derive(Drop)]
 pub struct StdSink<W: Write + Drop> {
     writer: W,

@@ -4,7 +4,9 @@
 ghost use Rattle.std.specs.Prelude.{◌≡◌, ◌≤◌, ◌+◌, min};
 ghost use Rattle.craft_numbers.specs.Gains.{progress_gain_of, quality_gain_of, base_value_of, bonus_of};
 
-/// The progress that an action of efficiency `p`, in percent, gives on a base value.
+/// The progress that an action gives, in points, rounded down once. `base` (at most 5000) is what an efficiency of 100
+/// percent gives, and `p` (at most 400) the action's efficiency in percent. Veneration adds half of it, and Muscle
+/// Memory the whole.
 pub fn progress_gain(base: u32, p: u32, veneration: bool, muscle: bool) -> u32
     requires base_range { base ≤ 5000 }
     requires p_range { p ≤ 400 }
@@ -23,7 +25,9 @@ fn bonus(on: bool, percent: u32) -> u32
     if on { percent } else { 0 }
 }
 
-/// The quality that an action of efficiency `q`, in percent, gives on a base value with `iq` stacks of Inner Quiet.
+/// The quality that an action gives, in points, rounded down once. `base` (at most 5000) is what an efficiency of 100
+/// percent gives, and `q` (at most 400) the action's efficiency in percent. Each of the `iq` stacks of Inner Quiet (at
+/// most 10) adds a tenth. Of the gain with the stacks Innovation adds half, and Great Strides the whole.
 #[tactic(auto, using(crate::proofs::Bounds::gain_product))]
 pub fn quality_gain(base: u32, q: u32, iq: u32, innovation: bool, strides: bool) -> u32
     requires base_range { base ≤ 5000 }
@@ -36,7 +40,9 @@ pub fn quality_gain(base: u32, q: u32, iq: u32, innovation: bool, strides: bool)
     (base as u64 * q as u64 * (100 + 10 * iq as u64) * percent / 1000000) as u32
 }
 
-/// The base value that a crafter's stat gives on a recipe with the divisor `div` and the modifier `modifier`, in percent.
+/// The base value that a crafter's stat gives, in points: `modifier` percent of `10 * stat / div + plus`, rounded down
+/// once. `stat` (at most 10000) is craftsmanship or control, `div` (1 to 1000) the recipe's divisor for it, and `plus`
+/// (at most 35) what doesn't depend on the stat: 2 for progress, 35 for quality. `modifier` is at most 100.
 pub fn base_of(stat: u32, div: u32, plus: u32, modifier: u32) -> u32
     requires stat_range { stat ≤ 10000 }
     requires div_low { 1 ≤ div }
@@ -48,7 +54,7 @@ pub fn base_of(stat: u32, div: u32, plus: u32, modifier: u32) -> u32
     (10 * stat + plus * div) * modifier / (100 * div)
 }
 
-/// The sum of two amounts, capped.
+/// The sum of two amounts, each at most 200000, or `cap` where the sum is more.
 pub fn cap_add(a: u32, b: u32, cap: u32) -> u32
     requires a_range { a ≤ 200000 }
     requires b_range { b ≤ 200000 }

@@ -5,7 +5,6 @@ use Rattle.std.specs.Int.{bit_at}
 use Rattle.std.specs.Int.RustNames.{bit_or}
 use Rattle.toml.specs.Data.{Members}
 use Rattle.action_table.specs.declared.action.Action.{Action}
-use Rattle.action_table.specs.declared.action.Action.TheVariants.{BasicSynthesis}
 use Rattle.action_table.specs.Table.{number_of}
 use Rattle.craft_settings.specs.declared.fault.SettingsFault.TheVariants.{TooLong}
 use Rattle.craft_settings.specs.Ranges.{SettingsFields}
@@ -17,15 +16,12 @@ use Rattle.craft_settings.specs.Steps.{Adds}
 use Rattle.craft_settings.specs.Accepts.{GivesBy, IsAccepted, HasFault}
 use Rattle.craft_settings.proofs.ForbidLemmas.{bit_at-set, bit_at-start, bit_at-empty}
 use Rattle.craft_settings.proofs.Unique.{file_fault-accepted}
+use Rattle.action_table.proofs.Names.{number_below}
 
 -- some mask has the bits of the names beside those of another
 record Mask (two : Bool) (ns : List (List ℕ)) (start : ℕ) : Type 0 where
   pub mask : ℕ
   pub adds : Adds two ns start mask
-
-small_number : (action : Action) → number_of action < 26
-small_number BasicSynthesis = omega arith
-small_number _ = omega arith
 
 -- a name that is of no action adds no bit
 adds-none : (two : Bool) (name : List ℕ) (ns : List (List ℕ)) (start mask : ℕ) → action_of two name ≡ None → Adds two ns start mask → Adds two (name ∷ ns) start mask
@@ -41,7 +37,7 @@ adds-some : (two : Bool) (name : List ℕ) (ns : List (List ℕ)) (start mask : 
     Adds two ns (bit_or start (1 * 2 ^ number_of action % 4294967296)) mask → Adds two (name ∷ ns) start mask
 adds-some two name ns start mask action known adds n =
     rw known (adds n
-    ∙ ap (λ x. max x (bit (are_against two ns n))) (bit_at-set start (number_of action) n (small_number action))
+    ∙ ap (λ x. max x (bit (are_against two ns n))) (bit_at-set start (number_of action) n (number_below action))
     ∙ max_bits (bit_at start n) (nat_eq (number_of action) n) (are_against two ns n))
 
 mask_of : (two : Bool) (ns : List (List ℕ)) (start : ℕ) → Mask two ns start

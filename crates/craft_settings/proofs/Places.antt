@@ -13,6 +13,7 @@ use Rattle.craft_settings.specs.Document.{value_of, section_data, is_stats}
 use Rattle.craft_settings.specs.Fault.{first_some, fits, stray, integer_of}
 use Rattle.craft_settings.specs.Reading.{computed_at, number_here, range_at, value_fault, fault_by, stats_progress, stats_quality}
 use Rattle.craft_settings.specs.Steps.{outside_at, base_fault, computed_fault, given_fault, step_fault}
+use Rattle.plain_lemmas.proofs.Tests.{not_true}
 
 or-assoc : (a b c : Option SettingsFault) → option_or (option_or a b) c ≡ option_or a (option_or b c)
 or-assoc None b c = refl
@@ -30,10 +31,6 @@ first_some-append f (x ∷ xs) ys = rw (first_some-append f xs ys) (sym (or-asso
 abbrev is_plain : ℕ → Bool
 is_plain place = not (place == base_progress_key) && not (place == base_quality_key)
 
-not-true : (b : Bool) → not b ≡ true → b ≡ false
-not-true true h = absurd (false≢true h)
-not-true false h = refl
-
 computed-plain : (doc : Members) → computed_at doc false false ≡ None
 unfolding computed_at
 computed-plain doc = elim (cases_Bool (is_stats doc)) [
@@ -44,7 +41,7 @@ computed-plain doc = elim (cases_Bool (is_stats doc)) [
 number-plain : (doc : Members) (place : ℕ) → is_plain place ≡ true → number_here doc place ≡ integer_of doc (row_of place)
 number-plain doc place plain =
     let (a, b) = and_parts (not (place == base_progress_key)) (not (place == base_quality_key)) plain in
-    rw (not-true _ a, not-true _ b, computed-plain doc) (or-none (integer_of doc (row_of place)))
+    rw (not_true _ a, not_true _ b, computed-plain doc) (or-none (integer_of doc (row_of place)))
 
 range_at-plain : (doc : Members) (place : ℕ) → is_plain place ≡ true → range_at doc place ≡ outside_at doc place
 unfolding range_at outside_at

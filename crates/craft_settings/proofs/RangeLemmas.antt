@@ -1,5 +1,5 @@
 -- Where no number is out of range, each number is in its range.
-use Rattle.std.proofs.Common.{◌≡◌, ◌≤◌, ◌%◌, ◌==◌, ℕ, ℤ, pos, negsuc, Bool, true, false, not, List, [], ◌∷◌, Option, Some, None, option_map, refl, sym, inl, inr, arith, nat_le, ◌&&◌}
+use Rattle.std.proofs.Common.{◌≡◌, ◌≤◌, ◌%◌, ◌==◌, ℕ, ℤ, pos, negsuc, Bool, true, false, List, [], ◌∷◌, Option, Some, None, option_map, refl, inl, inr, arith, nat_le, ◌&&◌}
 use Rattle.std.proofs.lemmas.Bool.{cases_Bool, false≢true, and_parts}
 use Rattle.std.proofs.lemmas.Bool.Decides.{nat_tests}
 use Rattle.std.specs.List.{list_any}
@@ -15,6 +15,7 @@ use Rattle.craft_settings.specs.Keys.{row_of, rows, places, level_key, cp_key, c
 use Rattle.craft_settings.specs.Fault.{first_some, when, fits, stray, integer_of}
 use Rattle.craft_settings.specs.Reading.{natural, number_from, number_at}
 use Rattle.craft_settings.specs.Steps.{outside_at, fault_at, base_fault, IsInRange}
+use Rattle.plain_lemmas.proofs.Tests.{not_false}
 
 pub or_none : {A : Type 0} (a b : Option A) → option_or a b ≡ None → (a ≡ None) × (b ≡ None)
 or_none None b h = (refl, h)
@@ -37,10 +38,6 @@ map_none f (Some x) h = cc
 when_none : {A : Type 0} (b : Bool) (x : A) → when b x ≡ None → b ≡ false
 when_none true x h = cc
 when_none false x h = refl
-
-not_false : (b : Bool) → not b ≡ false → b ≡ true
-not_false true h = refl
-not_false false h = absurd (false≢true (sym h))
 
 -- the number that isn't out of range fits
 stray-fits : (kind : Kind) (z : ℤ) → stray kind (Some z) ≡ None → fits kind z ≡ true

@@ -6,6 +6,7 @@ use Rattle.toml.specs.Data.{Members}
 use Rattle.craft_numbers.specs.Gains.{base_value_of}
 use Rattle.craft_settings.specs.declared.fault.SettingsFault.{SettingsFault}
 use Rattle.craft_settings.specs.declared.fault.SettingsFault.TheVariants.{TooLong, NotToml, OutOfRange, TwoBases}
+use Rattle.craft_settings.specs.declared.reader.TheConstants.{MAX_LENGTH}
 use Rattle.craft_settings.specs.Keys.{Row, row_of, places, stats_places, craftsmanship_key, control_key, progress_div_key, quality_div_key, progress_mod_key, quality_mod_key, penalty_key, base_progress_key, base_quality_key}
 use Rattle.craft_settings.specs.Document.{document, value_at, is_stats, is_two}
 use Rattle.craft_settings.specs.Fault.{first_some, when, stray, integer_of, missing_at, misfit_at}
@@ -83,7 +84,7 @@ first_fault doc = fault_by (is_two doc) doc
 
 -- the most bytes that a file may have
 abbrev pub max_length : ℕ
-max_length = 65536
+max_length = MAX_LENGTH
 
 -- the fault of a file, where `two` says which documents are of the second version
 

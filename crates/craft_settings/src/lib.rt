@@ -18,7 +18,7 @@ mod unknown;
 use action_table::{Action, row};
 pub use fault::{KeyText, SettingsFault};
 pub use keys::Key;
-pub use reader::read;
+pub use reader::{MAX_LENGTH, read};
 use std::marker::Model;
 
 /// One crafter and one recipe.
@@ -60,21 +60,21 @@ impl Model for Settings {
 impl Settings {
     ghost use Rattle.craft_settings.specs.Rules.{is_learned, is_forbidden, is_allowed, cap_of};
 
-    /// Whether the crafter's level suffices for an action.
+    /// Whether the crafter's level is at least the level from which on the action is known.
     pub fn is_learned(&self, action: Action) -> bool
         ensures { result ≡ is_learned self.now action }
     {
         row(action, self.level).level <= self.level
     }
 
-    /// Whether an action is forbidden.
+    /// Whether the settings forbid an action, whatever the crafter's level is.
     pub fn is_forbidden(&self, action: Action) -> bool
         ensures { result ≡ is_forbidden self.now action }
     {
         self.forbidden >> action.number() & 1 == 1
     }
 
-    /// The most quality that counts.
+    /// The most quality that counts, in points: the lesser of the recipe's quality and the target.
     pub fn cap(&self) -> u32
         ensures { result ≡ cap_of self.now }
     {
@@ -84,7 +84,8 @@ impl Settings {
 
 ghost use Rattle.craft_settings.specs.Rules.{is_allowed};
 
-/// Whether the crafter's level suffices for an action that isn't forbidden.
+/// Whether an action may be used in this craft at all: the crafter's level suffices for it, and the settings don't
+/// forbid it. Whether it is legal in a state is another question.
 pub fn allowed(g: &Settings, action: Action) -> bool
     ensures { result ≡ is_allowed g.now action }
 {

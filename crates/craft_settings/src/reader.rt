@@ -21,7 +21,8 @@ use crate::unknown::check_keys;
 use std::alloc::Global;
 use toml::Table;
 
-const MAX_LENGTH: usize = 65536;
+/// The most bytes that a settings file may have.
+pub const MAX_LENGTH: usize = 65536;
 
 /// Reads a settings file, a TOML document of at most 65536 bytes.
 ///

@@ -9,12 +9,13 @@ use Rattle.std.specs.Str.Parse.{digits_value}
 use Rattle.action_table.specs.declared.action.Action.{Action}
 use Rattle.action_table.specs.declared.action.Action.TheVariants.{BasicSynthesis}
 use Rattle.action_table.specs.Table.{number_of}
-use Rattle.action_table.proofs.Names.{number_of-injective}
+use Rattle.action_table.proofs.Names.{number_of-injective, number_below}
 use Rattle.certificate_text.specs.Text.{space, is_number, first_line, best_line}
 use Rattle.certificate_text.specs.Reading.{IsReadNumber}
 use Rattle.certificate_text.proofs.WordByWord.{from_on}
 use Rattle.front_check.specs.Named.{word_of, Names, NamesNone}
 use Rattle.front_check.proofs.FromLevel.{rest-is}
+use Rattle.certificate_text.proofs.Parts.{no-position}
 
 -- the words of a macro
 abbrev spelled : List Action → List ℕ
@@ -38,20 +39,16 @@ unfolding digits
 is-value BasicSynthesis = refl
 is-value _ = refl
 
-small-number : (a : Action) → number_of a < 26
-small-number BasicSynthesis = omega arith
-small-number _ = omega arith
-
 pub no-number : (word : List ℕ) (a : Action) → is_number word ≡ false → word ≡ decimal (number_of a) → ⊥
 no-number word a none is = clash (ap (λ (l : List ℕ). is_number l) is ∙ is-number a) none
 
 pub only-number : (word : List ℕ) (a : Action) (n : ℕ) → IsReadNumber word n → word ≡ decimal (number_of a) → n ≡ number_of a
 only-number word a n read is =
     let same : digits_value 10 word ≡ number_of a = ap (λ (l : List ℕ). digits_value 10 l) is ∙ is-value a in
-    omega (arith, read.value, same, small-number a)
+    omega (arith, read.value, same, number_below a)
 
 pub high-number : (word : List ℕ) (a : Action) (n : ℕ) → IsReadNumber word n → 26 ≤ n → word ≡ decimal (number_of a) → ⊥
-high-number word a n read high is = absurd (omega (arith, only-number word a n read is, small-number a, high))
+high-number word a n read high is = absurd (omega (arith, only-number word a n read is, number_below a, high))
 
 pub same-action : (word : List ℕ) (a found : Action) (n : ℕ) → IsReadNumber word n → number_of found ≡ n → word ≡ decimal (number_of a) → a ≡ found
 same-action word a found n read named is = number_of-injective a found (sym (only-number word a n read is) ∙ sym named)
@@ -86,10 +83,6 @@ some-place false n place h = cc
 pub end-some : (bytes : List ℕ) (place : ℕ) → position (λ byte. byte == space) bytes ≡ Some place → place ≡ before bytes
 end-some bytes place h = sym (some-place (nat_lt (before bytes) (length bytes)) (before bytes) place h)
 
-none-place : (b : Bool) (n : ℕ) → cond b (Some n) None ≡ None → b ≡ false
-none-place true n h = cc
-none-place false n h = refl
-
 before-le : (b : Bool) (n l : ℕ) → n ≤ l → cond (not b) (1 + n) 0 ≤ suc l
 before-le true n l h = omega arith
 before-le false n l h = omega (arith, h)
@@ -99,7 +92,7 @@ before-most [] = omega arith
 before-most (x ∷ bytes) = before-le (x == space) (before bytes) (length bytes) (before-most bytes)
 
 pub end-none : (bytes : List ℕ) → position (λ byte. byte == space) bytes ≡ None → length bytes ≡ before bytes
-end-none bytes h = omega (arith, before-most bytes, not_lt (before bytes) (length bytes) (none-place (nat_lt (before bytes) (length bytes)) (before bytes) h))
+end-none bytes h = omega (arith, before-most bytes, not_lt (before bytes) (length bytes) (no-position (nat_lt (before bytes) (length bytes)) (before bytes) h))
 
 -- each macro that the line names begins with these actions, and the rest of the line is its rest
 pub record Left (line : List ℕ) (actions : List Action) (from : ℕ) : Type 0 where

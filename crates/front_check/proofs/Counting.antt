@@ -1,6 +1,5 @@
 -- What look-ahead keeps is of the next level, and no more than the text has room for.
-use Rattle.std.proofs.Common.{◌≡◌, sym, ℕ, suc, ◌+◌, ◌*◌, ◌≤◌, ◌==◌, Bool, true, false, ◌⊎◌, inl, inr, List, [], ◌∷◌, length, length-append, get_or, refl, ap, subst, arith, if◌then◌else◌}
-use Rattle.std.specs.Prelude.{All}
+use Rattle.std.proofs.Common.{◌≡◌, sym, ℕ, suc, ◌+◌, ◌*◌, ◌≤◌, ◌==◌, Bool, true, false, ◌⊎◌, inl, inr, List, [], ◌∷◌, length, length-append, refl, ap, subst, arith, if◌then◌else◌}
 use Rattle.action_table.specs.declared.action.Action.{Action}
 use Rattle.craft_settings.specs.Ranges.{SettingsFields}
 use Rattle.step_rules.specs.Legality.{is_legal}
@@ -8,7 +7,6 @@ use Rattle.macro_order.specs.Order.{seconds_of}
 use Rattle.action_table.proofs.Seconds.{seconds_small}
 use Rattle.prefix_fronts.specs.Prefix.{Prefix, extend}
 use Rattle.plain_lemmas.proofs.Lists.{Among, Among-append_cases}
-use Rattle.plain_lemmas.proofs.Places.{Among-get_or, Among-Contains}
 use Rattle.certificate_text.specs.declared.verdict.Verdict.{Verdict}
 use Rattle.certificate_text.specs.Text.{space, in_front, parts, IsRow}
 use Rattle.certificate_text.proofs.WordByWord.{all-say-long, parts-some}
@@ -17,6 +15,7 @@ use Rattle.certificate_laws.specs.Lines.{Keeps}
 use Rattle.front_check.specs.Levels.{IsKeptAt, AreKept}
 use Rattle.certificate_laws.proofs.Rows.{among-legal}
 use Rattle.front_check.proofs.RowJudged.{child-begun, child-long}
+use Rattle.plain_lemmas.proofs.Places.{Among-All, All-Among}
 
 seconds-short : (m : List Action) → seconds_of m ≤ 3 * length m
 seconds-short [] = omega arith
@@ -46,12 +45,6 @@ child-kept g level p c kept child =
     let long : length c.actions ≡ level + 1 = omega (arith, child-long g p c child.action child.is, kept.long) in
     record { begun = begun; small = omega (arith, begun.seconds, seconds-short c.actions, begun.short); long = long }
 
-all-among : {X : Type 0} (P : X → Type 0) (xs : List X) (x : X) → All P xs → Among x xs → P x
-all-among P xs x all here = let at = Among-Contains xs x here in subst P at.2 (all at.0 x at.1)
-
-among-all : {X : Type 0} (P : X → Type 0) (xs : List X) → ((x : X) → Among x xs → P x) → All P xs
-among-all P xs each = λ k d inside. each (get_or xs k d) (Among-get_or xs k d inside)
-
 keeps-each : (g : SettingsFields) (level : ℕ) (kept : List Prefix) (lines : List (List ℕ)) (next : List Prefix) → ((p : Prefix) → Among p kept → IsKeptAt g level p) → Keeps g kept lines next → (c : Prefix) → Among c next → IsKeptAt g (level + 1) c
 keeps-each g level [] lines next each keeps c here = absurd (subst (λ (ps : List Prefix). Among c ps) keeps here)
 keeps-each g level (p ∷ kept) [] next each keeps c here = absurd (subst (λ (ps : List Prefix). Among c ps) keeps here)
@@ -64,7 +57,7 @@ keeps-each g level (p ∷ kept) (line ∷ lines) next each (inr seen) c here =
 
 -- the next level's prefixes
 pub keeps-kept : (g : SettingsFields) (level : ℕ) (kept : List Prefix) (lines : List (List ℕ)) (next : List Prefix) → AreKept g level kept → Keeps g kept lines next → AreKept g (level + 1) next
-keeps-kept g level kept lines next all keeps = among-all (IsKeptAt g (level + 1)) next (keeps-each g level kept lines next (λ p here. all-among (IsKeptAt g level) kept p all here) keeps)
+keeps-kept g level kept lines next all keeps = Among-All (IsKeptAt g (level + 1)) next (keeps-each g level kept lines next (λ p here. All-Among (IsKeptAt g level) kept p all here) keeps)
 
 -- how many bytes lines take with their ends
 abbrev pub room : List (List ℕ) → ℕ

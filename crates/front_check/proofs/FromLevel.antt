@@ -95,9 +95,6 @@ rest-is text from = ap (λ (l : List ℕ). length l) (take_rest text from) ∙ l
 pub is_none : (n : ℕ) → true ≡ (n == 0) → n ≡ 0
 is_none n h = grind (arith, nat_tests)
 
-pub is_some : (n : ℕ) → false ≡ (n == 0) → 0 < n
-is_some n h = grind (arith, nat_tests)
-
 pub rest-long : (text : List ℕ) (from : ℕ) → length (from_on from text) ≤ length text
 rest-long text from = omega (arith, ap (λ (l : List ℕ). length l) (take_rest text from), length-drop from text)
 

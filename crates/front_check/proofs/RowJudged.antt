@@ -18,6 +18,7 @@ use Rattle.certificate_text.proofs.Unique.{row-same}
 use Rattle.certificate_laws.specs.Claims.{Claim, Holds, legal_after, RowHolds}
 use Rattle.front_check.specs.Judging.{IsBegun, RowObeys}
 use Rattle.certificate_laws.proofs.Reading.{row-long}
+use Rattle.plain_lemmas.proofs.Tests.{le_or}
 
 pub child-begun : (g : SettingsFields) (p c : Prefix) (a : Action) → IsBegun g p → is_legal g p.state a ≡ true → c ≡ extend g p a → IsBegun g c
 child-begun g p c a begun legal is =
@@ -39,9 +40,6 @@ slice_get-none : {X : Type 0} (xs : List X) (i : ℕ) → length xs ≤ i → sl
 slice_get-none [] i h = refl
 slice_get-none (x ∷ xs) zero h = absurd (omega (arith, h))
 slice_get-none (x ∷ xs) (suc i) h = slice_get-none xs i (omega (arith, h))
-
-le_or : (a b : ℕ) → (a ≤ b) ⊎ (b < a)
-le_or a b = grind arith
 
 -- a place is as good as it is read
 slice_get-read : (next : List Prefix) (j : ℕ) → length next ≤ MOST_NUMBER → slice_get next (min j MOST_NUMBER) ≡ slice_get next j

@@ -1,7 +1,7 @@
 -- What the last step of a walk finds.
 use Rattle.std.proofs.Common.{◌≡◌, ◌∙◌, sym, ℕ, zero, suc, ◌+◌, ◌-◌, ◌<◌, ◌≤◌, true, ◌⊎◌, List, [], ◌∷◌, length, get_or, Some, None, arith, refl, ap, subst, map}
 use Rattle.plain_lemmas.proofs.Lists.{Among, Among-map, map-Among}
-use Rattle.plain_lemmas.proofs.Places.{Among-Contains}
+use Rattle.plain_lemmas.proofs.Places.{Among-Contains, Among-All}
 use Rattle.std.specs.List.{range_with_len}
 use Rattle.action_table.specs.declared.action.Action.{Action}
 use Rattle.action_table.specs.Table.{all_actions}
@@ -18,7 +18,7 @@ use Rattle.front_walk.specs.declared.links.Link.{Link}
 use Rattle.front_walk.specs.Nodes.{AreSizes, nodes_by, nodes_at, link_of, soonest_of}
 use Rattle.front_walk.specs.Walking.{IsSoonestCompletion, sizes_below}
 use Rattle.front_walk.proofs.Tied.{tied, stands-for, tied-nodes_by, Ordered-front, Ordered-unmap}
-use Rattle.front_walk.proofs.Leading.{nodes_by-parent, LeadsTo, leads-step, leads-to, level-length, All-from_Among, soonest-is, IsSoonestNode, soonest-none}
+use Rattle.front_walk.proofs.Leading.{nodes_by-parent, LeadsTo, leads-step, leads-to, level-length, soonest-is, IsSoonestNode, soonest-none}
 
 -- what is known of a walk, and of the nodes that its last level leads to
 pub record Ends (g : SettingsFields) (s : StateFields) (target : ℕ) (passes : Test) (n k : ℕ) (ends : List Node) : Type 0 where
@@ -79,7 +79,7 @@ found-soonest g s target passes n k ends last actions e some acts =
     record {
       last = f last;
       among = rw (last_front g s target passes n k e.one) (Among-Contains _ (f last) among);
-      soonest = rw (last_front g s target passes n k e.one) (All-from_Among (λ (q : Prefix). (f last ≡ q) ⊎ (is_sooner (f last) q ≡ true)) _ (λ q m.
+      soonest = rw (last_front g s target passes n k e.one) (Among-All (λ (q : Prefix). (f last ≡ q) ⊎ (is_sooner (f last) q ≡ true)) _ (λ q m.
           let r = map-Among f q ends (subst (λ l. Among q l) (sym same) m) in
           subst (λ (z : Prefix). (f last ≡ z) ⊎ (is_sooner (f last) z ≡ true)) r.2 (first.each r.0 r.1)));
       actions_is = acts;

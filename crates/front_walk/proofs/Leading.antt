@@ -1,11 +1,10 @@
 -- What the nodes of the levels lead to.
 use Rattle.std.proofs.Common.{◌≡◌, ◌∙◌, sym, ℕ, zero, suc, ◌+◌, ◌-◌, ◌<◌, ◌≤◌, Bool, true, false, cond, ◌||◌, ◌&&◌, ◌==◌, nat_lt, ◌⊎◌, inl, inr, List, [], ◌∷◌, ◌++◌, length, get_or, Some, None, arith, refl, ap, subst, map, if◌then◌else◌}
-use Rattle.plain_lemmas.proofs.Places.{Among-get_or}
-use Rattle.plain_lemmas.proofs.Tests.{bool_cases, not_lt}
+use Rattle.plain_lemmas.proofs.Places.{Among-get_or, Among-All}
+use Rattle.plain_lemmas.proofs.Tests.{bool_cases, not_lt, lt_from}
 use Rattle.std.specs.List.{filter_map, enumerate_from, All}
 use Rattle.std.proofs.Math.ListN.{get_or-map}
 use Rattle.std.proofs.lemmas.List.{get_or-map as get_or-mapped, length-map}
-use Rattle.std.proofs.lemmas.List.Elements.{All-nil, All-cons}
 use Rattle.std.proofs.lemmas.Bool.Decides.{nat_tests}
 use Rattle.action_table.specs.declared.action.Action.{Action}
 use Rattle.action_table.specs.Table.{all_actions}
@@ -21,7 +20,6 @@ use Rattle.step_rules.proofs.Runs.{measure-run}
 use Rattle.macro_order.specs.Order.{precedes}
 use Rattle.prefix_fronts.specs.Prefix.{Prefix, Test, IsOpen, empty_from, goes_on, children, prefixes, front, is_sooner, AreLimits}
 use Rattle.plain_lemmas.proofs.Lists.{Among, filter-Among, flat_map-Among, map-Among}
-use Rattle.macro_order.proofs.Transitive.{step_trans, precedes-transitive}
 use Rattle.prefix_fronts.proofs.Members.{prefix-facts, children-Among}
 use Rattle.prefix_fronts.proofs.Sorted.{Ordered}
 use Rattle.prefix_fronts.proofs.Fronts.{front-first, front-among}
@@ -29,7 +27,8 @@ use Rattle.pareto_front.specs.declared.node.Node.{Node}
 use Rattle.pareto_front.specs.Covers.{uncovered}
 use Rattle.front_walk.specs.declared.links.Link.{Link}
 use Rattle.front_walk.specs.Nodes.{IsNode, child_by, children_by, nodes_by, goes_and_passes, nodes_at, link_of, actions_to, Climbs, sooner_of, soonest_from, soonest_of}
-use Rattle.front_walk.proofs.Tied.{tied, Looks, placed-above, stands-for, nodes-next, lt_from}
+use Rattle.front_walk.proofs.Tied.{tied, Looks, placed-above, stands-for, nodes-next}
+use Rattle.prefix_fronts.proofs.Best.{sooner_trans}
 
 -- nodes are children of nodes
 pub Among-uncovered : (m : Node) (ns : List Node) → Among m (uncovered ns) → Among m ns
@@ -120,10 +119,6 @@ Looks-Among (n ∷ ns) [] m l h = absurd l
 Looks-Among (n ∷ ns) (p ∷ ps) m l (inl e) = (p, inl refl, ap (λ (z : Node). z.state) (sym e) ∙ l.0, ap (λ (z : Node). z.seconds) (sym e) ∙ l.1)
 Looks-Among (n ∷ ns) (p ∷ ps) m l (inr h) = let r = Looks-Among ns ps m l.2 h in (r.0, inr r.1, r.2, r.3)
 
-pub All-from_Among : {X : Type 0} (P : X → Type 0) (xs : List X) → ((x : X) → Among x xs → P x) → All P xs
-All-from_Among P [] each = All-nil P
-All-from_Among P (x ∷ xs) each = All-cons P x xs (each x (inl refl)) (All-from_Among P xs (λ y h. each y (inr h)))
-
 -- what is asked of a state stays so where the craft goes on
 abbrev pub AllowsOn : SettingsFields → (StateFields → Bool) → Type 0
 AllowsOn g allows = (s : StateFields) (action : Action) → IsWithin g s → allows s ≡ true → goes_on g s action ≡ true → allows (step_of g s action) ≡ true
@@ -152,7 +147,7 @@ few_actions g s last m within ran =
 pub level-nodes : (g : SettingsFields) (s : StateFields) (target : ℕ) (passes : Test) (allows : StateFields → Bool) (n k : ℕ) → IsOpen g s → AreLimits g target passes → AllowsOn g allows → allows s ≡ true →
     k < n → All (IsNode g allows) (nodes_at g s passes n k)
 level-nodes g s target passes allows n k is_open limits on start below =
-    All-from_Among (IsNode g allows) (nodes_at g s passes n k) (λ m h.
+    Among-All (IsNode g allows) (nodes_at g s passes n k) (λ m h.
     let r = Looks-Among _ _ m (stands-for g s target passes n k is_open limits below).looks h in
     let among = front-among g s passes n k r.0 r.1 in
     let is = prefix-facts g s is_open k r.0 among in
@@ -184,9 +179,6 @@ sooner_by_seconds x y r h = grind (arith, nat_tests)
 
 sooner_by_place : (x y : ℕ) (r : Bool) → x ≤ y → r ≡ true → (nat_lt x y || (x == y && r)) ≡ true
 sooner_by_place x y r h k = grind (arith, nat_tests)
-
-sooner_trans : (p q r : Prefix) → is_sooner p q ≡ true → is_sooner q r ≡ true → is_sooner p r ≡ true
-sooner_trans p q r h k = step_trans p.seconds q.seconds r.seconds _ _ _ (precedes-transitive p.actions q.actions r.actions) h k
 
 AsSoon : (Node → Prefix) → Node → Node → Type 0
 AsSoon f x y = (f x ≡ f y) ⊎ (is_sooner (f x) (f y) ≡ true)

@@ -1,10 +1,9 @@
 -- The nodes of a level stand for the prefixes of its front.
 use Rattle.std.proofs.Common.{◌≡◌, ◌∙◌, sym, ℕ, zero, suc, ◌+◌, ◌-◌, ◌<◌, ◌≤◌, Bool, true, false, cond, if◌then◌else◌, not, ◌&&◌, ◌||◌, ◌==◌, nat_lt, inl, inr, List, [], ◌∷◌, ◌++◌, append_assoc, length, length-append, get_or, arith, refl, ap, subst, map}
-use Rattle.plain_lemmas.proofs.Tests.{bool_cases, clash, same_answer, lt_to, ways}
+use Rattle.plain_lemmas.proofs.Tests.{bool_cases, clash, same_answer, lt_to, ways, lt_from}
 use Rattle.std.specs.List.{filter, filter_map, flat_map, list_any, enumerate_from}
 use Rattle.std.proofs.lemmas.List.{map-append}
 use Rattle.std.proofs.lemmas.List.Elements.{filter-append}
-use Rattle.std.proofs.lemmas.Bool.Decides.{nat_tests}
 use Rattle.action_table.specs.declared.action.Action.{Action}
 use Rattle.action_table.specs.Table.{all_actions, action_seconds}
 use Rattle.craft_state.specs.Craft.{StateFields}
@@ -155,9 +154,6 @@ map-filter f u (x ∷ xs) =
 pub Ordered-unmap : {X Y : Type 0} (s : Y → Y → Bool) (f : X → Y) (xs : List X) → Ordered s (map f xs) → Ordered (λ x y. s (f x) (f y)) xs
 Ordered-unmap s f [] h = tt
 Ordered-unmap s f (x ∷ xs) h = (λ y m. h.0 (f y) (Among-map f y xs m), Ordered-unmap s f xs h.1)
-
-pub lt_from : (a b : ℕ) → nat_lt a b ≡ true → a < b
-lt_from a b h = grind (arith, nat_tests)
 
 place_test : (s : StateFields) (ps : List Prefix) (ns : List Node) → Ordered is_before (map (tied s ps) ns) → (i j : ℕ) (x y : Node) →
     Among (i, x) (enumerate_from 0 ns) → Among (j, y) (enumerate_from 0 ns) → nat_lt i j ≡ precedes (tied s ps x).actions (tied s ps y).actions

@@ -29,15 +29,18 @@ abbrev pub hit_mask : ℕ → ℕ → ℕ → List ℕ → List ℕ → List ℕ
 hit_mask a b c u v w = mask_l (map (top 31) (zip2 bit_and (zip2 bit_and (zip2 (λ x y. ones (leb x y)) (replicate 8 a) u)
     (zip2 (λ x y. ones (leb x y)) (replicate 8 b) v)) (zip2 (λ x y. ones (leb x y)) (replicate 8 c) w))) % 2 ^ 64
 
-pub hits : (cp dur quality : List ℕ) (a b c i : ℕ) → i + 8 ≤ length cp → i + 8 ≤ length dur → i + 8 ≤ length quality
-    → hit_mask a b c (chunk i 8 cp) (chunk i 8 dur) (chunk i 8 quality) ≡ mask_l (map (is_covering cp dur quality a b c) (range_with_len i 8))
-hits cp dur quality a b c i r1 r2 r3 =
+pub hits : (cp dur quality c : List ℕ) (i : ℕ) → i + 8 ≤ length cp → i + 8 ≤ length dur → i + 8 ≤ length quality
+    → hit_mask (get_or c 0 0) (get_or c 1 0) (get_or c 2 0) (chunk i 8 cp) (chunk i 8 dur) (chunk i 8 quality)
+    ≡ mask_l (map (is_covering cp dur quality c) (range_with_len i 8))
+hits cp dur quality c i r1 r2 r3 =
+    let least = λ (k : ℕ). get_or c k 0 in
     let e1 = sym (pick_l-range_with_len 0 cp i 8 r1) in
     let e2 = sym (pick_l-range_with_len 0 dur i 8 r2) in
     let e3 = sym (pick_l-range_with_len 0 quality i 8 r3) in
-    (λ j. hit_mask a b c (e1 j) (e2 j) (e3 j))
-    ∙ (λ j. mask_l (map (λ k. lane (leb a (get_or cp k 0)) (leb b (get_or dur k 0)) (leb c (get_or quality k 0)) j) (range_with_len i 8)) % 2 ^ 64)
-    ∙ mask_l-mod (map (is_covering cp dur quality a b c) (range_with_len i 8)) 64 (omega arith)
+    (λ j. hit_mask (least 0) (least 1) (least 2) (e1 j) (e2 j) (e3 j))
+    ∙ (λ j. mask_l (map (λ k. lane (leb (least 0) (get_or cp k 0)) (leb (least 1) (get_or dur k 0)) (leb (least 2) (get_or quality k 0)) j)
+    (range_with_len i 8)) % 2 ^ 64)
+    ∙ mask_l-mod (map (is_covering cp dur quality c) (range_with_len i 8)) 64 (omega arith)
 
 -- what the mask of eight places says of the places before the first that is set
 pub record Run (cp dur quality : List ℕ) (c : List ℕ) (i r : ℕ) : Type 0 where
@@ -45,17 +48,17 @@ pub record Run (cp dur quality : List ℕ) (c : List ℕ) (i r : ℕ) : Type 0 w
   pub before : NoneCovers cp dur quality c i (i + r)
   pub found : r < 8 → Covers cp dur quality c (i + r)
 
-covers_of : (cp dur quality c : List ℕ) (k : ℕ) → is_covering cp dur quality (get_or c 0 0) (get_or c 1 0) (get_or c 2 0) k ≡ true → Covers cp dur quality c k
+covers_of : (cp dur quality c : List ℕ) (k : ℕ) → is_covering cp dur quality c k ≡ true → Covers cp dur quality c k
 covers_of cp dur quality c k h = grind (arith, nat_tests)
 
-not_covers : (cp dur quality c : List ℕ) (k : ℕ) → is_covering cp dur quality (get_or c 0 0) (get_or c 1 0) (get_or c 2 0) k ≡ false → Covers cp dur quality c k → ⊥
+not_covers : (cp dur quality c : List ℕ) (k : ℕ) → is_covering cp dur quality c k ≡ false → Covers cp dur quality c k → ⊥
 not_covers cp dur quality c k h covers = grind (arith, nat_tests)
 
 pub run_of : (cp dur quality c : List ℕ) (i hits r : ℕ)
-    → hits ≡ mask_l (map (is_covering cp dur quality (get_or c 0 0) (get_or c 1 0) (get_or c 2 0)) (range_with_len i 8))
+    → hits ≡ mask_l (map (is_covering cp dur quality c) (range_with_len i 8))
     → r ≡ cond (eqb hits 0) 8 (count_trailing_zeros 64 hits) → Run cp dur quality c i r
 run_of cp dur quality c i hits r is counted =
-    let p = λ (k : ℕ). is_covering cp dur quality (get_or c 0 0) (get_or c 1 0) (get_or c 2 0) k in
+    let p = λ (k : ℕ). is_covering cp dur quality c k in
     let vs = range_with_len i 8 in
     let len : r ≡ prefix_len (λ k. not (p k)) vs =
     counted ∙ ap (λ h. cond (eqb h 0) 8 (count_trailing_zeros 64 h)) is ∙ first_set_mask_l p vs 8 refl (omega arith) in

@@ -14,7 +14,7 @@ NoneCovers cp dur quality c from to = (k : ℕ) → from ≤ k → k < to → ¬
 abbrev pub IsFirstCover : List ℕ → List ℕ → List ℕ → List ℕ → ℕ → Type 0
 IsFirstCover cp dur quality c k = (k < length cp) × Covers cp dur quality c k × NoneCovers cp dur quality c 0 k
 
--- `Covers` as a test, of the three numbers apart
-abbrev pub is_covering : List ℕ → List ℕ → List ℕ → ℕ → ℕ → ℕ → ℕ → Bool
-is_covering cp dur quality a b c k =
-    nat_le a (slice_index cp k) && nat_le b (slice_index dur k) && nat_le c (slice_index quality k)
+-- `Covers` as a test
+abbrev pub is_covering : List ℕ → List ℕ → List ℕ → List ℕ → ℕ → Bool
+is_covering cp dur quality c k = nat_le (slice_index c 0) (slice_index cp k)
+    && nat_le (slice_index c 1) (slice_index dur k) && nat_le (slice_index c 2) (slice_index quality k)

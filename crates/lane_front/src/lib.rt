@@ -49,7 +49,7 @@ fn passed_over(cp: &[u32], dur: &[u32], quality: &[u32], c: [u32; 3], i: usize) 
     ensures before { NoneCovers cp.now dur.now quality.now c i (i + result) }
     ensures found { result < lanes → Covers cp.now dur.now quality.now c (i + result) }
 {
-    let hits = hits_at(cp, dur, quality, c[0], c[1], c[2], i);
+    let hits = hits_at(cp, dur, quality, c, i);
     if hits == 0 {
         LANES
     } else {
@@ -58,23 +58,15 @@ fn passed_over(cp: &[u32], dur: &[u32], quality: &[u32], c: [u32; 3], i: usize) 
 }
 
 // A bit for each entry of one vector, from place `i` on, set where the entry covers.
-fn hits_at(
-    cp: &[u32],
-    dur: &[u32],
-    quality: &[u32],
-    least_cp: u32,
-    least_dur: u32,
-    least_quality: u32,
-    i: usize,
-) -> u64
+fn hits_at(cp: &[u32], dur: &[u32], quality: &[u32], c: [u32; 3], i: usize) -> u64
     requires cp_room { i + lanes ≤ length cp.now }
     requires dur_room { i + lanes ≤ length dur.now }
     requires quality_room { i + lanes ≤ length quality.now }
-    ensures { result ≡ mask_l (map (is_covering cp.now dur.now quality.now least_cp least_dur least_quality) (range_with_len i lanes)) }
+    ensures { result ≡ mask_l (map (is_covering cp.now dur.now quality.now c) (range_with_len i lanes)) }
 {
-    let enough_cp = u32x8::from_slice(&cp[i..]).simd_ge(u32x8::splat(least_cp));
-    let enough_dur = u32x8::from_slice(&dur[i..]).simd_ge(u32x8::splat(least_dur));
-    let enough_quality = u32x8::from_slice(&quality[i..]).simd_ge(u32x8::splat(least_quality));
+    let enough_cp = u32x8::from_slice(&cp[i..]).simd_ge(u32x8::splat(c[0]));
+    let enough_dur = u32x8::from_slice(&dur[i..]).simd_ge(u32x8::splat(c[1]));
+    let enough_quality = u32x8::from_slice(&quality[i..]).simd_ge(u32x8::splat(c[2]));
     (enough_cp & enough_dur & enough_quality).to_bitmask()
 }
 

@@ -31,7 +31,7 @@ pub fn score(g: &Settings, actions: &[Action]) -> Option<Score>
     }
 }
 
-/// How many seconds a list of actions takes.
+/// How many seconds a list of at most 1000 actions takes: the sum over its actions, each of which takes 2 or 3.
 pub fn seconds(actions: &[Action]) -> u32
     requires { length actions.now ≤ 1000 }
     ensures value { result ≡ seconds_of actions.now }

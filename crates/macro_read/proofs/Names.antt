@@ -1,5 +1,5 @@
 -- A line names one action at most.
-use Rattle.std.proofs.Common.{◌≡◌, ◌≢◌, ◌==◌, ◌+◌, ◌-◌, ◌++◌, ◌∷◌, [], ℕ, Option, None, Some, MatchOption, Bor, nat_eq, find, position, length, take, drop, get_or, if◌then◌else◌, codes, ◌∙◌, ap, sym, refl, inl, inr, ⊎_elim}
+use Rattle.std.proofs.Common.{◌≡◌, ◌≢◌, ◌==◌, true, false, ◌+◌, ◌-◌, ◌++◌, ◌∷◌, [], ℕ, Option, None, Some, MatchOption, Bor, nat_eq, find, position, length, take, drop, get_or, if◌then◌else◌, codes, ◌∙◌, ap, sym, refl, inl, inr, ⊎_elim}
 use Rattle.std.proofs.lemmas.Bool.{eqb-true}
 use Rattle.std.proofs.lemmas.List.{take-append-drop, drop_more, take_rest}
 use Rattle.std.proofs.lemmas.List.Quantifiers.{position-Some}
@@ -98,3 +98,13 @@ other_command line None first second = λ command quoted is whole.
     ⊎_elim (λ short. first quoted (whole ∙ ap (λ (t : Text). t ++ (codes " \"" ++ quoted)) short))
     (λ long. second quoted (whole ∙ ap (λ (t : Text). t ++ (codes " \"" ++ quoted)) long)) is
 other_command line (Some rest) first second = (codes "/action", inr refl, second)
+
+name-itself : (a : Action) → pointwise nat_eq (display_name_of a) (display_name_of a) ≡ true
+name-itself BasicSynthesis = refl
+name-itself _ = refl
+
+-- a text that isn't the name of an action
+pub other_name : (a : Action) (text name : Text) → text ≡ display_name_of a → pointwise nat_eq text name ≡ false → display_name_of a ≢ name
+other_name a text name is other same =
+    let itself : pointwise nat_eq text name ≡ true = (λ j. pointwise nat_eq (is j) (sym same j)) ∙ name-itself a in
+    absurd (cc)

@@ -80,11 +80,9 @@ fn is_wait(text: &[u8]) -> bool
 fn action_named(name: &[u8]) -> Option<Action>
     ensures { MatchOption result ((action : Action) → display_name_of action ≢ name.now) (λ action. display_name_of action ≡ name.now) }
 {
-    for number in 0..Action::COUNT {
-        if let Some(action) = Action::from_number(number) {
-            if action.display_name().as_bytes() == name {
-                return Some(action);
-            }
+    for &action in Action::ALL.iter() {
+        if action.display_name().as_bytes() == name {
+            return Some(action);
         }
     }
     None

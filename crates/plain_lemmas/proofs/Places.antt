@@ -1,5 +1,5 @@
 -- Elements of lists, by place and by recursion.
-use Rattle.std.proofs.Common.{◌≡◌, ◌∙◌, ℕ, zero, suc, ◌+◌, ◌<◌, ◌⊎◌, inl, inr, List, [], ◌∷◌, length, get_or, take, Contains, slice_get, Some, arith, refl, sym, subst}
+use Rattle.std.proofs.Common.{◌≡◌, ◌∙◌, ℕ, zero, suc, ◌+◌, ◌<◌, ◌⊎◌, inl, inr, List, [], ◌∷◌, length, get_or, take, All, Contains, slice_get, Some, arith, refl, sym, subst}
 use Rattle.std.proofs.lemmas.List.{take_more}
 use Rattle.plain_lemmas.proofs.Lists.{Among, Among-append_cases, Among-append_left, Among-append_right}
 
@@ -62,3 +62,9 @@ pub at_stored : {X : Type 0} (xs : List X) (i : ℕ) (k x : X) → slice_get xs 
 at_stored [] i k x h e = absurd (cc h)
 at_stored (y ∷ xs) zero k x h e = let same : y ≡ k = cc in same ∙ sym e
 at_stored (y ∷ xs) (suc i) k x h e = at_stored xs i k x h e
+
+pub Among-All : {X : Type 0} (P : X → Type 0) (xs : List X) → ((x : X) → Among x xs → P x) → All P xs
+Among-All P xs each = λ k d inside. each (get_or xs k d) (Among-get_or xs k d inside)
+
+pub All-Among : {X : Type 0} (P : X → Type 0) (xs : List X) (x : X) → All P xs → Among x xs → P x
+All-Among P xs x all here = let at = Among-Contains xs x here in subst P at.2 (all at.0 x at.1)

@@ -78,3 +78,37 @@ bit_same false false h = refl
 pub bit_small : (b : Bool) → bit b < 2
 bit_small true = omega arith
 bit_small false = omega arith
+
+pub or_none : (a b : Bool) → (a || b) ≡ false → (a ≡ false) × (b ≡ false)
+or_none true b h = absurd (cc)
+or_none false b h = (refl, h)
+
+pub passes_by : (first a b : Bool) → a ≡ true → b ≡ true → (first || (a && b)) ≡ true
+passes_by true a b h k = refl
+passes_by false a b h k = rw (h, k) refl
+
+pub lt_from : (a b : ℕ) → nat_lt a b ≡ true → a < b
+lt_from a b h = grind (arith, nat_tests)
+
+pub le_or : (a b : ℕ) → (a ≤ b) ⊎ (b < a)
+le_or a b = grind arith
+
+pub le_more : (a b c : ℕ) → nat_le a b ≡ true → b ≤ c → nat_le a c ≡ true
+le_more a b c h k = grind (arith, nat_tests)
+
+pub same_number : (a : ℕ) → (a == a) ≡ true
+same_number a = grind (arith, nat_tests)
+
+pub some_test : (j : ℕ) → 1 ≤ j → nat_lt 0 j ≡ true
+some_test j h = grind arith
+
+pub some_by : (j : ℕ) → nat_lt 0 j ≡ true → 1 ≤ j
+some_by j h = grind arith
+
+pub off_more : (c s t : Bool) → (s ≡ true → t ≡ true) → (if c then false else s) ≡ true → (if c then false else t) ≡ true
+off_more true s t h k = k
+off_more false s t h k = h k
+
+pub and_then : (a b c : Bool) → (b ≡ true → c ≡ true) → (a && b) ≡ true → (a && c) ≡ true
+and_then true b c h k = h k
+and_then false b c h k = k

@@ -1,9 +1,8 @@
 -- The first completion that the fronts lead to is the best from the state.
 use Rattle.std.proofs.Common.{◌≡◌, ◌∙◌, sym, ℕ, suc, ◌+◌, ◌-◌, ◌/◌, ◌<◌, ◌≤◌, Bool, true, false, not, ◌&&◌, ◌||◌, ◌==◌, nat_lt, ◌⊎◌, inl, inr, List, [], ◌∷◌, ◌++◌, append_assoc, length, length-append, Option, Some, None, arith, refl, ap, subst, map, if◌then◌else◌}
-use Rattle.plain_lemmas.proofs.Places.{Contains-Among}
+use Rattle.plain_lemmas.proofs.Places.{Contains-Among, All-Among}
 use Rattle.plain_lemmas.proofs.Tests.{bool_cases, clash, and_both, and_by, eq_from, eq_to, ways}
-use Rattle.std.specs.List.{filter, list_any, All}
-use Rattle.std.proofs.lemmas.List.Elements.{All-head, All-tail}
+use Rattle.std.specs.List.{filter, list_any}
 use Rattle.std.proofs.lemmas.Bool.Decides.{nat_tests}
 use Rattle.action_table.specs.declared.action.Action.{Action}
 use Rattle.action_table.specs.Table.{all_actions, action_seconds}
@@ -184,11 +183,6 @@ found-as g s target passes k is_open limits greatest p a here legal full quality
           }
     ]
 
-All-Among : {X : Type 0} (P : X → Type 0) (xs : List X) (x : X) → All P xs → Among x xs → P x
-All-Among P [] x all h = absurd h
-All-Among P (y ∷ xs) x all (inl e) = subst P e (All-head P y xs all)
-All-Among P (y ∷ xs) x all (inr h) = All-Among P xs x (All-tail P y xs all) h
-
 some-Among : {X : Type 0} (xs : List X) (x : X) → Among x xs → 0 < length xs
 some-Among [] x h = absurd h
 some-Among (y ∷ xs) x h = omega arith
@@ -202,7 +196,7 @@ better_steps q q' s s' r h k = grind (arith, nat_tests)
 pub better_sooner : (q q' s s' : ℕ) (r : Bool) → q ≡ q' → s ≡ s' → r ≡ true → (nat_lt q' q || (q == q' && (nat_lt s s' || (s == s' && r)))) ≡ true
 better_sooner q q' s s' r h k t = grind (arith, nat_tests)
 
-sooner_trans : (p q r : Prefix) → is_sooner p q ≡ true → is_sooner q r ≡ true → is_sooner p r ≡ true
+pub sooner_trans : (p q r : Prefix) → is_sooner p q ≡ true → is_sooner q r ≡ true → is_sooner p r ≡ true
 sooner_trans p q r h k = step_trans p.seconds q.seconds r.seconds _ _ _ (precedes-transitive p.actions q.actions r.actions) h k
 
 pub at_most : (a b : ℕ) → a ≤ b → (a < b) ⊎ (a ≡ b)

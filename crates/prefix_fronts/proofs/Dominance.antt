@@ -1,6 +1,6 @@
 -- Dominance is a strict order that passes to children.
 use Rattle.std.proofs.Common.{◌≡◌, ◌∙◌, ℕ, ◌+◌, Bool, true, false, not, ◌&&◌, ◌||◌, ◌==◌, nat_lt, List, [], ◌∷◌, ◌++◌, length, arith, refl, ap}
-use Rattle.plain_lemmas.proofs.Tests.{eq_from, and_both, and_by, le_from, le_to, not_true}
+use Rattle.plain_lemmas.proofs.Tests.{eq_from, and_both, and_by, le_from, le_to, not_true, same_number}
 use Rattle.std.proofs.lemmas.Bool.Decides.{nat_tests}
 use Rattle.action_table.specs.declared.action.Action.{Action}
 use Rattle.craft_state.specs.declared.Combo.{Combo}
@@ -49,9 +49,6 @@ bool_same false false h = refl
 bool_same-refl : (a : Bool) → same_bool a a ≡ true
 bool_same-refl true = refl
 bool_same-refl false = refl
-
-pub same_number : (a : ℕ) → (a == a) ≡ true
-same_number a = grind (arith, nat_tests)
 
 pub effects_same : (a b : EffectFields) → same_effects a b ≡ true → a ≡ b
 unfolding same_effects
@@ -115,7 +112,7 @@ is_not_less-by a b h =
     let effects : same_effects a.effects b.effects ≡ true = rw h.effects (effects_same-refl b.effects) in
     rw (progress, effects, le_to _ _ h.cp, le_to _ _ h.durability, le_to _ _ h.quality) refl
 
-IsNotLess-trans : (a b c : StateFields) → IsNotLess a b → IsNotLess b c → IsNotLess a c
+pub IsNotLess-trans : (a b c : StateFields) → IsNotLess a b → IsNotLess b c → IsNotLess a c
 IsNotLess-trans a b c h k = record {
   progress = h.progress ∙ k.progress;
   effects = h.effects ∙ k.effects;

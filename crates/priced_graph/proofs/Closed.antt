@@ -19,11 +19,7 @@ use Rattle.priced_moves.specs.Edges.{edge_of, before_edge, edges_with, edges_fro
 use Rattle.priced_moves.proofs.Plans.{move-listed}
 use Rattle.priced_graph.specs.Sights.{SightsFields, sights_of, IsSeenIn, IsSight}
 use Rattle.priced_graph.specs.Graphs.{StandsAt, LeadsOn, LeadOn}
-
--- each effect after a move
-if_below : (c : Bool) (a b n : ℕ) → a < n → b < n → (if c then a else b) < n
-if_below true a b n h k = h
-if_below false a b n h k = k
+use Rattle.plain_lemmas.proofs.Numbers.{if_below}
 
 capped_below : (level iq stacks : ℕ) → iq < (if nat_le 11 level then 11 else 1) → (if nat_le 11 level then min 10 (iq + stacks) else iq) < (if nat_le 11 level then 11 else 1)
 capped_below level iq stacks h = go (nat_le 11 level) h

@@ -2,12 +2,11 @@
 use Rattle.std.proofs.Common.{ℕ, zero, suc, Bool, true, false, List, [], ◌∷◌, Option, Some, None, ◌≡◌, ◌≤◌, ◌<◌, ◌⊎◌, ◌+◌, ◌-◌, ◌&&◌, ◌==◌, nat_le, nat_lt, min, max, refl, ◌∙◌, ap, sym, subst, arith, inl, inr, if◌then◌else◌}
 use Rattle.std.specs.Option.{option_map}
 use Rattle.std.proofs.lemmas.Bool.Decides.{nat_tests}
-use Rattle.std.proofs.lemmas.Bool.{cases_lt}
 use Rattle.action_table.specs.declared.action.Action.TheVariants.{Innovation, Veneration, GreatStrides, MuscleMemory}
 use Rattle.craft_settings.specs.Ranges.{SettingsFields, IsFromTo}
 use Rattle.craft_settings.specs.Rules.{is_allowed}
 use Rattle.relaxed_moves.specs.Optimum.{option_le, option_max}
-use Rattle.relaxed_moves.proofs.Greatest.{option_le-trans, option_max-left, option_max-right}
+use Rattle.relaxed_moves.proofs.Greatest.{option_le-trans, option_max-left, option_max-right, option_max-either}
 use Rattle.priced_moves.specs.declared.kinds.Edge as priced
 use Rattle.priced_moves.specs.declared.kinds.Prices.{Prices}
 use Rattle.priced_moves.specs.declared.kinds.Units.{Units}
@@ -29,14 +28,6 @@ use Rattle.priced_graph.proofs.Closed.{edges-lead_on}
 
 -- ---- the greatest over edges
 
-split_max : (a b : Option ℕ) (v : ℕ) → option_max a b ≡ Some v → (a ≡ Some v) ⊎ (b ≡ Some v)
-split_max None b v h = inr h
-split_max (Some m) None v h = inl h
-split_max (Some m) (Some n) v h = elim (cases_lt m n) [
-  | inl lt ↦ inr (ap (λ (k : ℕ). Some k) (let e : n ≡ max m n = omega arith in e) ∙ h)
-  | inr ge ↦ inl (ap (λ (k : ℕ). Some k) (let e : m ≡ max m n = omega arith in e) ∙ h)
-]
-
 greatest-stands : (f : priced.Edge → Option ℕ) (es : List priced.Edge) (i : ℕ) (e : priced.Edge) → StandsAt es i e → option_le (f e) (greatest_edge f es)
 greatest-stands f [] i e at = absurd (let below = at.0 in let x : ⊥ = omega arith in x)
 greatest-stands f (d ∷ es) zero e at = subst (λ (x : priced.Edge). option_le (f x) (option_max (f d) (greatest_edge f es))) at.1 (option_max-left (f d) (greatest_edge f es))
@@ -52,7 +43,7 @@ record Found (f : priced.Edge → Option ℕ) (es : List priced.Edge) (v : ℕ) 
 
 greatest-found : (f : priced.Edge → Option ℕ) (es : List priced.Edge) (v : ℕ) → greatest_edge f es ≡ Some v → Found f es v
 greatest-found f [] v h = absurd (cc)
-greatest-found f (d ∷ es) v h = elim (split_max (f d) (greatest_edge f es) v h) [
+greatest-found f (d ∷ es) v h = elim (option_max-either (f d) (greatest_edge f es) v h) [
   | inl here ↦ record { place = 0; edge = d; stands = (omega arith, refl); value = here }
   | inr later ↦
       let found = greatest-found f es v later in
@@ -256,7 +247,7 @@ walk-found : (fuel : ℕ) (p : Prices) (g : SettingsFields) (units : Units) (gra
     best p g units budget (at g node need) ≡ Some v → Walked graph budget node need v
 walk-found zero p g units graph budget node need v fair are tie below short is = absurd (let x : ⊥ = omega arith in x)
 walk-found (suc fuel) p g units graph budget node need v fair are tie below short is =
-    elim (split_max (at_end (at g node need)) (greatest_edge (edge_leads p g units budget need) (edges_of p g units (seen_at (sights_of g) node))) v (node-table p g units budget node need fair are in_craft ∙ is)) [
+    elim (option_max-either (at_end (at g node need)) (greatest_edge (edge_leads p g units budget need) (edges_of p g units (seen_at (sights_of g) node))) v (node-table p g units budget node need fair are in_craft ∙ is)) [
       | inl end ↦
           let none = ends need v end in
           let nothing = none.0 in

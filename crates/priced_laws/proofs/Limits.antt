@@ -1,7 +1,7 @@
 -- The limits of the next state, of the last, and of a state that isn't less; and the laws of the test.
 use Rattle.std.proofs.Common.{ℕ, Bool, true, false, Option, Some, None, ◌≡◌, ◌≤◌, inr, ◌+◌, ◌-◌, ◌*◌, ◌/◌, ◌%◌, ◌&&◌, ◌||◌, ◌==◌, nat_lt, min, refl, ◌∙◌, sym, subst, arith, if◌then◌else◌, not}
 use Rattle.std.specs.Option.{option_map}
-use Rattle.plain_lemmas.proofs.Tests.{and_by}
+use Rattle.plain_lemmas.proofs.Tests.{and_by, or_none}
 use Rattle.std.proofs.lemmas.Nat.{mul-le}
 use Rattle.std.proofs.Math.Nat.{mul-le-mul_left}
 use Rattle.action_table.specs.declared.action.Action.{Action}
@@ -41,6 +41,8 @@ use Rattle.priced_moves.proofs.Places.{own-cp}
 use Rattle.priced_laws.proofs.Places.{relaxed-listed, careful-listed, careful-cp, careful-efficiency}
 use Rattle.priced_laws.proofs.Seeing.{opens-later, seen-progress, seen-move, seen-rest, step-quality, rest-quality}
 use Rattle.priced_laws.proofs.Worth.{worn, spent_perfection, wear-paid, worth-move, worth-rest}
+use Rattle.plain_lemmas.proofs.Numbers.{some_fives, made_progress, gained}
+use Rattle.admissible.proofs.Reached.{ap_le}
 
 -- what a move adds to the best plan after it
 law-move : (p : Prices) (g : SettingsFields) (units : Units) (budget budget' : ℕ) (x x' : SeenFields) (a : Action) → AreFair g p → AreUnits units →
@@ -162,20 +164,8 @@ none-left g units s b are done =
     let more = ceiling-more ((g.progress - s.progress) * units.share) (gain * units.share) units.progress are.progress product in
     omega (arith, more)
 
--- a live state has some durability
-some_left : (d : ℕ) → (d == 0) ≡ false → d % 5 ≡ 0 → 1 ≤ d / 5
-some_left d h fives = grind arith
-
-or_none : (a b : Bool) → (a || b) ≡ false → (a ≡ false) × (b ≡ false)
-or_none true b h = absurd (cc)
-or_none false b h = (refl, h)
-
 all_done : (n p : ℕ) → (n == p) ≡ true → n ≡ p
 all_done n p h = grind arith
-
-made_progress : (c : Bool) (m n p : ℕ) → (if c then m else n) ≡ p → (n == p) ≡ false → c ≡ true
-made_progress true m n p h k = refl
-made_progress false m n p h k = grind arith
 
 -- within the budget, where the wear is what is left and what may be overdrawn
 overdrawn : (alpha rho sigma step cp cost d h w f over wear j : ℕ) → cost ≤ cp → 1 ≤ h → wear ≤ rho + over → 1 ≤ j →
@@ -253,7 +243,7 @@ last-of g s a last =
       later = opens-not s.effects a last.first (effects_allow g s a facts);
       made = made_progress _ _ _ _ done over.0;
       done = done;
-      left = some_left s.durability over.1 last.step.within.state.fives;
+      left = some_fives s.durability over.1 last.step.within.state.fives;
     }
 
 -- the action itself, where it is within the budget
@@ -265,11 +255,6 @@ stands-own p g units s a j are last paid = record {
   none = none-left g units s a are (omega (arith, seen-progress g units s a last.allowed, last.done));
   quality = step-quality g units s a are last.later;
 }
-
--- the place of Careful Synthesis does no less than a Groundwork whose durability doesn't last
-gained : (c : Bool) (p n x y : ℕ) → x ≤ y → (if c then min p (n + x) else n) ≤ n + y
-gained true p n x y h = omega arith
-gained false p n x y h = omega arith
 
 half_progress : (g : SettingsFields) (units : Units) (s : StateFields) → nat_lt s.durability (wear_at g s Groundwork) ≡ true →
     progress_after g s Groundwork ≤ s.progress + progress_of g (seen_of g units s) CarefulSynthesis
@@ -330,10 +315,6 @@ limit-last p g units s Groundwork j fair are last some =
     last-groundwork p g units s j fair are some (last-of g s Groundwork last)
 limit-last p g units s BasicSynthesis j fair are last some = last-other p g units s BasicSynthesis j fair are some (last-of g s BasicSynthesis last) refl
 limit-last p g units s a j fair are last some = last-other p g units s a j fair are some (last-of g s a last) refl
-
--- a state that isn't less has no lower limit
-ap_le : (f : EffectFields → ℕ) (e e' : EffectFields) → e ≡ e' → f e ≤ f e'
-ap_le f e e' same = subst (λ u. f e ≤ f u) same (omega arith)
 
 worth-more : (alpha rho over step cp cp' d d' m m' w w' j : ℕ) → cp' ≤ cp → d' ≤ d → m' ≤ m → w' ≤ w →
     alpha * cp' + rho * (d' + m') + w' + over + step * j ≤ alpha * cp + rho * (d + m) + w + over + step * j

@@ -23,6 +23,7 @@ use Rattle.priced_moves.proofs.Rounding.{quotient-more}
 use Rattle.priced_laws.specs.Laws.{GoesLater, StaysLive, IsDone}
 use Rattle.priced_laws.proofs.Worth.{worth-rest}
 use Rattle.priced_laws.proofs.Limits.{limit-step, limit-last, capped-more, seen-ten, IsNoAbler-refl}
+use Rattle.plain_lemmas.proofs.Numbers.{one_more}
 
 -- more steps are worth no less
 more-steps : (alpha rho sigma step cp d m w f over i j : ℕ) → i ≤ j →
@@ -75,9 +76,6 @@ some-run g s t [] live h done =
     let e : s ≡ t = some_same s t h in
     absurd (complete_over (is_complete g s) _ (subst (λ u. is_complete g u ≡ true) (sym e) done) live)
 some-run g s t (a ∷ m) live h done = omega arith
-
-one_more : (n : ℕ) → n + 1 ≡ suc n
-one_more n = omega arith
 
 limit-next : (p : Prices) (g : SettingsFields) (units : Units) (s t : StateFields) (a : Action) (m : List Action) → AreFair g p → AreUnits units → GoesLater g s a →
     run_of g (step_of g s a) m ≡ Some t → is_complete g t ≡ true → option_le (limit_of p g units (step_of g s a) (length m)) (limit_of p g units s (suc (length m)))

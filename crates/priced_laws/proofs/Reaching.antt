@@ -1,6 +1,6 @@
 -- The test keeps what the fronts ask of a test.
-use Rattle.std.proofs.Common.{◌≡◌, ◌∙◌, ℕ, List, length, ◌+◌, ◌≤◌, Bool, true, false, ◌||◌, ◌&&◌, nat_lt, nat_le, Option, Some, None, arith, refl, ap, subst}
-use Rattle.plain_lemmas.proofs.Tests.{and_by, le_to}
+use Rattle.std.proofs.Common.{◌≡◌, ◌∙◌, ℕ, List, length, ◌+◌, ◌≤◌, true, false, ◌||◌, ◌&&◌, nat_lt, Option, Some, None, arith, refl, ap, subst}
+use Rattle.plain_lemmas.proofs.Tests.{and_by, le_to, and_both, passes_by, le_more, some_test, some_by}
 use Rattle.std.proofs.lemmas.Bool.Decides.{nat_tests}
 use Rattle.action_table.specs.declared.action.Action.{Action}
 use Rattle.craft_state.specs.Craft.{StateFields}
@@ -20,31 +20,14 @@ use Rattle.priced_laws.specs.Laws.{IsDone}
 use Rattle.priced_laws.proofs.Limits.{limit-step, limit-last, limit-not_less}
 use Rattle.priced_laws.proofs.Reached.{limit-steps, limit-run, some-run}
 
-le_trans : (a b c : ℕ) → nat_le a b ≡ true → b ≤ c → nat_le a c ≡ true
-le_trans a b c h k = grind (arith, nat_tests)
-
 -- a greater limit is enough too
-enough-more : (target : ℕ) (o o' : Option ℕ) → option_le o o' → is_enough target o ≡ true → is_enough target o' ≡ true
+pub enough-more : (target : ℕ) (o o' : Option ℕ) → option_le o o' → is_enough target o ≡ true → is_enough target o' ≡ true
 enough-more target None o' le h = absurd (cc)
 enough-more target (Some a) None le h = absurd le
-enough-more target (Some a) (Some b) le h = le_trans target a b h le
+enough-more target (Some a) (Some b) le h = le_more target a b h le
 
 enough-some : (target most : ℕ) (o : Option ℕ) → target ≤ most → option_le (Some most) o → is_enough target o ≡ true
 enough-some target most o h le = enough-more target (Some most) o le (le_to target most h)
-
-both : (a b : Bool) → (a && b) ≡ true → (a ≡ true) × (b ≡ true)
-both true b h = (refl, h)
-both false b h = absurd (cc)
-
-passes_by : (first a b : Bool) → a ≡ true → b ≡ true → (first || (a && b)) ≡ true
-passes_by true a b h k = refl
-passes_by false a b h k = rw (h, k) refl
-
-some_test : (j : ℕ) → 1 ≤ j → nat_lt 0 j ≡ true
-some_test j h = grind arith
-
-some_by : (j : ℕ) → nat_lt 0 j ≡ true → 1 ≤ j
-some_by j h = grind arith
 
 -- a state passes before the first step
 reaches-first : (p : Prices) (g : SettingsFields) (units : Units) (target j : ℕ) (s : StateFields) → s.effects.first ≡ true → reaches p g units target j s ≡ true
@@ -60,11 +43,11 @@ reaches-parts : (p : Prices) (g : SettingsFields) (units : Units) (target j : �
     (1 ≤ j) × (is_enough target (limit_of p g units s j) ≡ true)
 unfolding reaches
 reaches-parts p g units target j s later h =
-    let parts = both _ _ (subst (λ b. (b || (nat_lt 0 j && is_enough target (limit_of p g units s j))) ≡ true) later h) in
+    let parts = and_both _ _ (subst (λ b. (b || (nat_lt 0 j && is_enough target (limit_of p g units s j))) ≡ true) later h) in
     (some_by j parts.0, parts.1)
 
 -- by whether the first step is still to come
-by-first : (P : Type 0) (s : StateFields) → (s.effects.first ≡ true → P) → (s.effects.first ≡ false → P) → P
+pub by-first : (P : Type 0) (s : StateFields) → (s.effects.first ≡ true → P) → (s.effects.first ≡ false → P) → P
 by-first P s to_come over = elim (s.effects.first) as (λ b. s.effects.first ≡ b → P) [ true ↦ to_come | false ↦ over ] refl
 
 -- more steps and a lower target are no harder
@@ -111,10 +94,10 @@ are_limits p g units target fair are = record {
 pub AreLimits-both : (g : SettingsFields) (target : ℕ) (one two : Test) → AreLimits g target one → AreLimits g target two → AreLimits g target (λ j s. one j s && two j s)
 AreLimits-both g target one two h k = record {
   step = λ j s action within live legal goes pass.
-      let parts = both (one j (step_of g s action)) (two j (step_of g s action)) pass in
+      let parts = and_both (one j (step_of g s action)) (two j (step_of g s action)) pass in
       and_by _ _ (h.step j s action within live legal goes parts.0) (k.step j s action within live legal goes parts.1);
   order = λ j a b within within' live less pass.
-      let parts = both (one j b) (two j b) pass in
+      let parts = and_both (one j b) (two j b) pass in
       and_by _ _ (h.order j a b within within' live less parts.0) (k.order j a b within within' live less parts.1);
   last = λ j s action within live legal done enough.
       and_by _ _ (h.last j s action within live legal done enough) (k.last j s action within live legal done enough);

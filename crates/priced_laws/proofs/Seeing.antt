@@ -61,7 +61,7 @@ step-need g units s a are allowed =
     let gained = seen-progress g units s a allowed in
     need-falls units g.progress s.progress (step_of g s a).progress _ are (omega (arith, parts.0, gained))
 
-after-iq : (g : SettingsFields) (e : EffectFields) (a : Action) →
+pub after-iq : (g : SettingsFields) (e : EffectFields) (a : Action) →
     (after_of (tick_of (used_effects g e a)) a).iq ≡ (if nat_lt 0 (row_of a g.level).quality then iq_after g.level e.iq e.combo a else e.iq)
 unfolding tick_of after_of
 after-iq g e BasicSynthesis = refl

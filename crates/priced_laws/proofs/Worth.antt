@@ -16,12 +16,13 @@ use Rattle.step_rules.specs.Step.{wear_at, acted_of, settled_of, step_of}
 use Rattle.step_rules.proofs.LegalFacts.{legal_facts, effects_allow}
 use Rattle.relaxed_moves.specs.Budget.{wear_cost}
 use Rattle.admissible.specs.Laws.{GoesOn}
-use Rattle.admissible.proofs.Potential.{lift, waste_lift, taken, spent_waste, goes-acted, step-settled, allowed-now}
+use Rattle.admissible.proofs.Potential.{lift, waste_lift, taken, spent_waste, goes-acted, step-settled, allowed-now, acted-parts, settled-cp, wear_fives, lasting}
 use Rattle.priced_moves.specs.declared.kinds.Prices.{Prices}
 use Rattle.priced_moves.specs.Moves.{is_listed}
 use Rattle.priced_moves.specs.Prices.{raw_price, price_of, AreFair, spared, raw_worth, worth_of}
 use Rattle.priced_moves.proofs.Rounding.{quotient-add, quotient-more}
 use Rattle.priced_moves.proofs.Places.{own-cp}
+use Rattle.plain_lemmas.proofs.Numbers.{one_less, fives_less}
 
 -- what the action's durability takes from Trained Perfection
 abbrev pub spent_perfection : Prices → SettingsFields → EffectFields → Action → ℕ
@@ -119,34 +120,6 @@ charge alpha rho sigma step cp cp' cost h h' u l w w' t k f f' c e j over wear p
 -- what the action's own effect may add to the worth
 abbrev pub lift_worth : Prices → SettingsFields → Action → ℕ
 lift_worth p g a = p.five * lift g a + p.waste * waste_lift a + step_lift p a
-
-acted-parts : (g : SettingsFields) (s : StateFields) (a : Action) →
-    ((acted_of g s a).durability ≡ s.durability - wear_at g s a) × ((acted_of g s a).effects.manipulation ≡ s.effects.manipulation) × ((acted_of g s a).effects.waste ≡ s.effects.waste) × ((acted_of g s a).cp ≡ s.cp - cp_cost_of a g.level s.effects.combo)
-unfolding acted_of
-acted-parts g s a = (refl, refl, refl, refl)
-
-settled-cp : (g : SettingsFields) (before : EffectFields) (a : Action) (s : StateFields) → (settled_of g before a s).cp ≡ s.cp
-unfolding settled_of
-settled-cp g before a s = refl
-
-fives_less : (d w : ℕ) → d % 5 ≡ 0 → w % 5 ≡ 0 → w ≤ d → (d - w) % 5 ≡ 0
-fives_less d w h k le = omega arith
-
--- the durability that a going step leaves
-outlasts : (x : Bool) (d w : ℕ) → (x || (d - w == 0)) ≡ false → d % 5 ≡ 0 → w % 5 ≡ 0 → (w ≤ d) × (5 ≤ d - w)
-outlasts x d w live fives wears = (grind arith, grind arith)
-
-wear_fives : (g : SettingsFields) (s : StateFields) (a : Action) → wear_at g s a % 5 ≡ 0
-wear_fives g s BasicSynthesis = grind arith
-wear_fives g s _ = grind arith
-
-lasting : (g : SettingsFields) (s : StateFields) (a : Action) → is_over g (acted_of g s a) ≡ false → s.durability % 5 ≡ 0 →
-    (wear_at g s a ≤ s.durability) × (5 ≤ s.durability - wear_at g s a)
-unfolding acted_of
-lasting g s a live fives = outlasts _ s.durability (wear_at g s a) live fives (wear_fives g s a)
-
-one_less : (j : ℕ) → j + 1 - 1 ≡ j
-one_less j = omega arith
 
 -- the law of the worth, for moves and rests alike
 pub raw-step : (p : Prices) (g : SettingsFields) (s : StateFields) (a : Action) (j : ℕ) → GoesOn g s a → 1 ≤ j →

@@ -1,6 +1,5 @@
 -- What can do no more gains no more.
-use Rattle.std.proofs.Common.{ℕ, Bool, true, false, List, [], ◌∷◌, Option, Some, None, ◌≡◌, ◌≤◌, ◌⊎◌, inl, inr, ◌+◌, ◌-◌, ◌*◌, ◌/◌, ◌&&◌, ◌==◌, nat_lt, nat_le, refl, sym, subst, arith, if◌then◌else◌, not, ◌||◌}
-use Rattle.std.specs.Option.{option_map}
+use Rattle.std.proofs.Common.{ℕ, Bool, true, false, List, [], ◌∷◌, ◌≡◌, ◌≤◌, ◌⊎◌, inl, inr, ◌+◌, ◌-◌, ◌*◌, ◌/◌, ◌&&◌, ◌==◌, nat_lt, nat_le, refl, sym, subst, arith, if◌then◌else◌, not, ◌||◌}
 use Rattle.std.proofs.lemmas.Nat.{mul-le}
 use Rattle.std.proofs.Math.Nat.{mul-le-mul_left}
 use Rattle.action_table.specs.declared.action.Action.{Action}
@@ -15,7 +14,7 @@ use Rattle.relaxed_moves.specs.Moves as relaxed
 use Rattle.relaxed_moves.specs.Budget.{wear_cost}
 use Rattle.relaxed_moves.specs.Optimum.{option_le}
 use Rattle.relaxed_moves.proofs.Greatest.{option_le-trans}
-use Rattle.relaxed_moves.proofs.Order.{move_gain-more, progress_gain-more}
+use Rattle.relaxed_moves.proofs.Order.{move_gain-more, progress_gain-more, step_le, empty_by}
 use Rattle.priced_moves.specs.declared.kinds.Prices.{Prices}
 use Rattle.priced_moves.specs.declared.kinds.Units.{Units}
 use Rattle.priced_moves.specs.Moves.{SeenFields, plain, IsNoAbler, AreUnits, is_listed, is_move_of, is_halved, cp_of, gain_of, progress_of, shift_of, move_on_of}
@@ -23,11 +22,8 @@ use Rattle.priced_moves.specs.Prices.{AreFair, raw_price, price_of}
 use Rattle.priced_moves.specs.Optimum.{gained, best}
 use Rattle.priced_moves.proofs.Plans.{best-upper, best-least}
 use Rattle.priced_moves.proofs.Rounding.{ceiling-more, quotient-more}
-
--- a choice keeps the order
-if_le : (c : Bool) (a b a' b' : ℕ) → a ≤ a' → b ≤ b' → (if c then a else b) ≤ (if c then a' else b')
-if_le true a b a' b' h k = h
-if_le false a b a' b' h k = k
+use Rattle.plain_lemmas.proofs.Numbers.{if_le, if_bound, positive_more, none_left}
+use Rattle.plain_lemmas.proofs.Tests.{off_more, and_then}
 
 -- no combo is never cheaper
 pub cost-none : (a : Action) (level : ℕ) (combo : Combo) → cp_cost_of a level combo ≤ cp_cost_of a level NoCombo
@@ -83,13 +79,10 @@ unfolding gain_of
 gain-more g units x y a are less =
     ceiling-more (relaxed.move_gain_of g (plain x) a) (relaxed.move_gain_of g (plain y) a) units.quality are.quality (move_gain-more g (plain x) (plain y) a less.plain)
 
-positive-more : (n m : ℕ) → n ≤ m → nat_lt 0 n ≡ true → nat_lt 0 m ≡ true
-positive-more n m more h = grind arith
-
 shift-more : (g : SettingsFields) (units : Units) (x y : SeenFields) (a : Action) → AreUnits units → IsNoAbler x y → shift_of g units x a ≤ shift_of g units y a
 shift-more g units x y a are less =
     let more : progress_of g x a ≤ progress_of g y a =
-    progress_gain-more g.base_progress _ _ _ _ _ _ (omega arith) (positive-more _ _ less.plain.veneration) less.plain.muscle in
+    progress_gain-more g.base_progress _ _ _ _ _ _ (omega arith) (positive_more _ _ less.plain.veneration) less.plain.muscle in
     ceiling-more (progress_of g x a * units.share) (progress_of g y a * units.share) units.progress are.progress
     (mul-le (progress_of g x a) units.share (progress_of g y a) units.share more (omega arith))
 
@@ -101,13 +94,9 @@ veneration-more : (n m : ℕ) (a : Action) → n ≤ m → relaxed.move_venerati
 veneration-more n m Veneration more = omega arith
 veneration-more n m _ more = omega arith
 
-off-more : (c s t : Bool) → (s ≡ true → t ≡ true) → (if c then false else s) ≡ true → (if c then false else t) ≡ true
-off-more true s t h k = k
-off-more false s t h k = h k
-
 strides-more : (g : SettingsFields) (s t : Bool) (a : Action) → (s ≡ true → t ≡ true) → relaxed.move_strides g s a ≡ true → relaxed.move_strides g t a ≡ true
 strides-more g s t GreatStrides h k = refl
-strides-more g s t a h k = off-more (nat_lt 0 (row_of a g.level).quality) s t h k
+strides-more g s t a h k = off_more (nat_lt 0 (row_of a g.level).quality) s t h k
 
 begun-more : (s t c : Bool) → (s ≡ false → t ≡ false) → (s || c) ≡ false → (t || c) ≡ false
 begun-more true t c h k = absurd (cc)
@@ -128,15 +117,11 @@ move_on-more g units x y a are less =
         innovation = innovation-more x.innovation y.innovation a less.plain.innovation;
         veneration = veneration-more x.veneration y.veneration a less.plain.veneration;
         strides = strides-more g x.strides y.strides a less.plain.strides;
-        muscle = off-more (nat_lt 0 (row_of a g.level).progress) x.muscle y.muscle less.plain.muscle;
+        muscle = off_more (nat_lt 0 (row_of a g.level).progress) x.muscle y.muscle less.plain.muscle;
       };
       combo = combo-more a x.combo y.combo less.combo;
       begun = begun-more x.begun y.begun _ less.begun;
     }
-
-if_bound : (c : Bool) (a b n : ℕ) → a ≤ n → b ≤ n → (if c then a else b) ≤ n
-if_bound true a b n h k = h
-if_bound false a b n h k = k
 
 iq_bound : (g : SettingsFields) (n : ℕ) (c : Combo) (a : Action) → n ≤ 10 → iq_after g.level n c a ≤ 10
 iq_bound g n c ByregotsBlessing h = omega arith
@@ -150,10 +135,6 @@ has-more : (x y : SeenFields) (a : Action) → x.iq ≤ y.iq → y.iq ≤ 10 →
 has-more x y ByregotsBlessing more bound h = grind arith
 has-more x y TrainedFinesse more bound h = grind arith
 has-more x y _ more bound h = refl
-
-and_then : (a b c : Bool) → (b ≡ true → c ≡ true) → (a && b) ≡ true → (a && c) ≡ true
-and_then true b c h k = h k
-and_then false b c h k = k
 
 time-more : (s t c : Bool) → (s ≡ false → t ≡ false) → not (s && c) ≡ true → not (t && c) ≡ true
 time-more true t true h k = absurd (cc)
@@ -176,22 +157,6 @@ may-more : (m m' : Bool) (p p' b b' : ℕ) → (m ≡ true → m' ≡ true) → 
 may-more true true p p' b b' h less more k = grind arith
 may-more true false p p' b b' h less more k = let e : false ≡ true = h refl in absurd (cc)
 may-more false m' p p' b b' h less more k = absurd (cc)
-
-step_le : (c c' : Bool) (s s' : ℕ) (o o' : Option ℕ) → (c ≡ true → c' ≡ true) → s ≤ s' → option_le o o' →
-    option_le (if c then option_map (λ n. s + n) o else None) (if c' then option_map (λ n. s' + n) o' else None)
-step_le false c' s s' o o' h more le = tt
-step_le true false s s' o o' h more le = let e : false ≡ true = h refl in absurd (cc)
-step_le true true s s' None o' h more le = tt
-step_le true true s s' (Some a) None h more le = absurd le
-step_le true true s s' (Some a) (Some b) h more le = omega arith
-
-empty_by : (c c' : Bool) → (c ≡ true → c' ≡ true) → option_le (if c then Some 0 else None) (if c' then Some 0 else None)
-empty_by true true h = omega arith
-empty_by true false h = let e : false ≡ true = h refl in absurd (cc)
-empty_by false c' h = tt
-
-none_left : (b b' : ℕ) → b' ≤ b → (b == 0) ≡ true → (b' == 0) ≡ true
-none_left b b' less e = grind arith
 
 -- a list gains no more from what can do no more, with no greater budget
 pub gained-more : (p : Prices) (g : SettingsFields) (units : Units) (budget budget' : ℕ) (x y : SeenFields) (m : List Action) → AreFair g p → AreUnits units → budget ≤ budget' → IsNoAbler x y → y.iq ≤ 10 →

@@ -2,20 +2,18 @@
 use Rattle.std.proofs.Common.{ℕ, true, ◌≡◌, ◌≤◌, ◌-◌, ◌*◌, ◌/◌, min, refl, arith, if◌then◌else◌}
 use Rattle.std.proofs.Math.Nat.{mul-le-mul_left}
 use Rattle.action_table.specs.declared.action.Action.{Action}
-use Rattle.action_table.specs.declared.action.Action.TheVariants.{BasicSynthesis, WasteNot, WasteNotII, Manipulation, ImmaculateMend}
-use Rattle.action_table.specs.Table.{row_of}
 use Rattle.craft_state.specs.declared.Combo.{Combo}
 use Rattle.craft_state.specs.declared.Perfection.{Perfection}
 use Rattle.craft_state.specs.declared.Perfection.TheVariants.{Ready, On, Spent}
 use Rattle.craft_state.specs.Craft.{StateFields}
 use Rattle.craft_settings.specs.Ranges.{SettingsFields, AreSettings}
 use Rattle.craft_settings.specs.Rules.{is_allowed}
-use Rattle.combo_effects.specs.Combos.{cp_cost_of}
 use Rattle.relaxed_moves.specs.Budget.{rho_of, sigma_of, slack_of, is_spent, cost_of, potential_of}
 use Rattle.relaxed_moves.proofs.Costs.{rho_low, rho_high}
 use Rattle.priced_moves.specs.Prices.{price_of, AreFair, spared, worth_of, steps_alone, budget_alone}
 use Rattle.priced_moves.proofs.Fairness.{quotient_times, price-some}
 use Rattle.priced_moves.proofs.Places.{own-cp}
+use Rattle.relaxed_moves.proofs.RestPrices.{rho-manipulation, rho-mend, sigma-waste, sigma-waste_more, combo_cost}
 
 -- each move costs one, and so many steps are worth so many
 pub price-steps : (g : SettingsFields) (combo : Combo) (a : Action) → price_of steps_alone g combo a ≡ 1
@@ -46,22 +44,6 @@ AreFair-steps g = record {
   moves = λ combo a listed. price-some steps_alone g combo a (omega arith) (omega arith) (omega arith) listed;
 }
 
-rho-manipulation : (g : SettingsFields) → is_allowed g Manipulation ≡ true → rho_of g ≤ 12
-unfolding rho_of
-rho-manipulation g allowed = rw allowed (omega arith)
-
-rho-mend : (g : SettingsFields) → is_allowed g ImmaculateMend ≡ true → rho_of g ≤ 112 / (g.durability / 5 - 1)
-unfolding rho_of
-rho-mend g allowed = rw allowed (omega arith)
-
-sigma-waste : (g : SettingsFields) → is_allowed g WasteNot ≡ true → sigma_of g ≤ 14
-unfolding sigma_of
-sigma-waste g allowed = rw allowed (grind arith)
-
-sigma-waste_more : (g : SettingsFields) → is_allowed g WasteNotII ≡ true → sigma_of g ≤ 12
-unfolding sigma_of
-sigma-waste_more g allowed = rw allowed (omega arith)
-
 -- the weights are fair
 pub AreFair-budget : (g : SettingsFields) → AreSettings g → AreFair g (budget_alone g)
 AreFair-budget g settings = record {
@@ -77,10 +59,6 @@ AreFair-budget g settings = record {
   };
   moves = λ combo a listed. price-some (budget_alone g) g combo a (omega arith) (omega arith) (omega (arith, rho_low g settings)) listed;
 }
-
-combo_cost : (a : Action) (level : ℕ) (combo : Combo) → (row_of a level).combo_cp ≤ cp_cost_of a level combo
-combo_cost BasicSynthesis level combo = grind arith
-combo_cost _ level combo = grind arith
 
 -- no move costs less than its weight
 pub price-budget : (g : SettingsFields) (combo : Combo) (a : Action) → is_allowed g a ≡ true → cost_of g a ≤ price_of (budget_alone g) g combo a

@@ -1,7 +1,7 @@
 -- Lists of edges by trails.
-use Rattle.std.proofs.Common.{ℕ, true, false, List, [], ◌∷◌, ◌++◌, ◌≡◌, ◌+◌, map, take, refl, ◌∙◌, ap, sym, subst, append_assoc, arith}
+use Rattle.std.proofs.Common.{ℕ, true, false, List, [], ◌∷◌, ◌++◌, ◌≡◌, ◌≤◌, ◌+◌, length, map, take, refl, ◌∙◌, ap, sym, subst, append_assoc, arith}
 use Rattle.std.specs.List.{flat_map}
-use Rattle.std.proofs.lemmas.List.{map-append, append-nil}
+use Rattle.std.proofs.lemmas.List.{map-append, append-nil, take_all}
 use Rattle.std.proofs.lemmas.Grind.{flat_map-append}
 use Rattle.action_table.specs.declared.action.Action.{Action}
 use Rattle.action_table.specs.declared.action.Action.TheVariants.{BasicSynthesis, StandardTouch, AdvancedTouch, RefinedTouch}
@@ -113,7 +113,7 @@ edges-more p g units x a n at =
     (ap (λ es. flat_map (edges_at 2 p g units x) (take (number_of a) all_actions) ++ es) (sym (append-nil (edges_at 2 p g units x a)))
     ∙ sym (flat_map-append (edges_at 2 p g units x) (take (number_of a) all_actions) (a ∷ []))))
 
-pub edges-all : (p : Prices) (g : SettingsFields) (units : Units) (x : SeenFields) → flat_map (edges_at 2 p g units x) (take 26 all_actions) ≡ edges_of p g units x
+pub edges-all : (p : Prices) (g : SettingsFields) (units : Units) (x : SeenFields) → flat_map (edges_at 2 p g units x) all_actions ≡ edges_of p g units x
 unfolding edges_of
 edges-all p g units x = refl
 
@@ -168,5 +168,6 @@ pub edges-pushed : (p : Prices) (g : SettingsFields) (units : Units) (x : SeenFi
     old ≡ flat_map (edges_at 2 p g units x) (take n all_actions) → new ≡ old ++ edges_at 2 p g units x a → new ≡ flat_map (edges_at 2 p g units x) (take (n + 1) all_actions)
 edges-pushed p g units x a n old new at so now = now ∙ ap (λ l. l ++ edges_at 2 p g units x a) so ∙ edges-more p g units x a n at
 
-pub edges-end : (p : Prices) (g : SettingsFields) (units : Units) (x : SeenFields) (n : ℕ) (all : List Edge) → n ≡ 26 → all ≡ flat_map (edges_at 2 p g units x) (take n all_actions) → all ≡ edges_of p g units x
-edges-end p g units x n all whole so = so ∙ ap (λ (m : ℕ). flat_map (edges_at 2 p g units x) (take m all_actions)) whole ∙ edges-all p g units x
+pub edges-end : (p : Prices) (g : SettingsFields) (units : Units) (x : SeenFields) (n : ℕ) (all : List Edge) → length all_actions ≤ n →
+    all ≡ flat_map (edges_at 2 p g units x) (take n all_actions) → all ≡ edges_of p g units x
+edges-end p g units x n all whole so = so ∙ ap (flat_map (edges_at 2 p g units x)) (take_all n all_actions whole) ∙ edges-all p g units x

@@ -1,5 +1,6 @@
 -- The greatest gain by trying each first move in turn.
-use Rattle.std.proofs.Common.{ℕ, List, [], ◌∷◌, ◌++◌, Option, Some, None, ◌≡◌, ◌≤◌, ◌+◌, take, ◌∙◌, ap, sym, subst, IfSome, arith}
+use Rattle.std.proofs.Common.{ℕ, List, [], ◌∷◌, ◌++◌, Option, Some, None, ◌≡◌, ◌≤◌, ◌+◌, length, take, ◌∙◌, ap, sym, subst, IfSome, arith}
+use Rattle.std.proofs.lemmas.List.{take_all}
 use Rattle.action_table.specs.declared.action.Action.{Action}
 use Rattle.action_table.specs.Table.{number_of, all_actions}
 use Rattle.craft_settings.specs.Ranges.{SettingsFields}
@@ -37,10 +38,10 @@ led-take p g units budget x a n at =
     (rw (take_to_action a) (led-push p g units budget x (take (number_of a) all_actions) a))
 
 -- with all tried it is the best
-pub led-all : (p : Prices) (g : SettingsFields) (units : Units) (budget : ℕ) (x : SeenFields) (n : ℕ) → n ≡ 26 → AreFair g p →
+pub led-all : (p : Prices) (g : SettingsFields) (units : Units) (budget : ℕ) (x : SeenFields) (n : ℕ) → length all_actions ≤ n → AreFair g p →
     led p g units budget x (take n all_actions) ≡ best p g units budget x
 led-all p g units budget x n whole fair =
-    ap (λ (m : ℕ). led p g units budget x (take m all_actions)) whole ∙ first-move p g units budget x fair
+    ap (led p g units budget x) (take_all n all_actions whole) ∙ first-move p g units budget x fair
 
 -- one more first move, as it is tried
 pub led-tried : (p : Prices) (g : SettingsFields) (units : Units) (budget : ℕ) (x : SeenFields) (a : Action) (n : ℕ) (old lead new : Option ℕ) → number_of a ≡ n →

@@ -47,10 +47,8 @@ fn best(terms: &Terms, budget: u32, x: &Seen) -> Option<u64>
     ensures high { IfSome result (λ n. n ≤ 100000 * budget) }
 {
     let mut most = if x.need == 0 { Some(0) } else { None };
-    for number in 0..Action::COUNT {
-        if let Some(action) = Action::from_number(number) {
-            most = greater(most, lead(terms, budget, x, action));
-        }
+    for &action in Action::ALL.iter() {
+        most = greater(most, lead(terms, budget, x, action));
     }
     most
 }

@@ -185,10 +185,8 @@ pub fn edges(
         units: *units,
     };
     let mut edges = Vec::new(alloc);
-    for number in 0..Action::COUNT {
-        if let Some(action) = Action::from_number(number) {
-            push_first(&mut edges, &terms, x, action)?;
-        }
+    for &action in Action::ALL.iter() {
+        push_first(&mut edges, &terms, x, action)?;
     }
     Ok(edges)
 }

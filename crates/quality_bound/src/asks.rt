@@ -48,7 +48,9 @@ pub fn limit(shared: &Shared<QualityTruth>, seat: &mut Seat<QualityTruth>, s: &S
     limit_by(shared, seat, &Scale::new(&truth.g, truth.grain), s)
 }
 
-/// The limit of a state, by the scale of the table's craft and grain, which a search makes once.
+/// The same as `limit`, by the scale of the table's craft and grain, which a search makes once for all of its states:
+/// the most quality that counts of a macro through a live state after the first step, None where the progress can't be
+/// done. The potential of the state is at most that of the start. No memory is taken, and nobody is waited for.
 pub fn limit_by(
     shared: &Shared<QualityTruth>,
     seat: &mut Seat<QualityTruth>,

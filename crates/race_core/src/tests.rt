@@ -60,7 +60,14 @@ impl Truth for TwoRows {
 fn seven_events(core: &mut Core<Three>) -> Result<(), WantMemory>
     requires { core.old ≡ started (λ _. 3) core.old.truth }
     ensures words { IfOk result (λ _. core.new.words ≡ 6 ∷ 1 ∷ 2 ∷ 0 ∷ []) }
-    ensures seat { IfOk result (λ _. live_at core.new.views 0 ≡ Some record { truth = Some core.old.truth; seen = 1 ∷ 1 ∷ 0 ∷ []; floor = Some 5; joined = false; steps = 5; last = Some (0, 6) }) }
+    ensures seat { IfOk result (λ _. live_at core.new.views 0 ≡ Some record {
+      truth = Some core.old.truth;
+      seen = 1 ∷ 1 ∷ 0 ∷ [];
+      floor = Some 5;
+      joined = false;
+      steps = 5;
+      last = Some (0, 6);
+    }) }
 {
     core.run(&[
         Event::Load { seat: 0, index: 1 },
@@ -99,7 +106,14 @@ fn words_after_seven_events(rt: HostRuntime) -> Result<(), Fail> {
 // Seat 0 has then seen 7. The last event changes nothing, since seat 1 was joined away.
 fn put_and_join(core: &mut Core<TwoRows>) -> Result<(), WantMemory>
     requires { core.old ≡ started (λ _. 2200) core.old.truth }
-    ensures seat { IfOk result (λ _. live_at core.new.views 0 ≡ Some record { truth = Some core.old.truth; seen = 7 ∷ []; floor = None; joined = false; steps = 3; last = Some (0, 0) }) }
+    ensures seat { IfOk result (λ _. live_at core.new.views 0 ≡ Some record {
+      truth = Some core.old.truth;
+      seen = 7 ∷ [];
+      floor = None;
+      joined = false;
+      steps = 3;
+      last = Some (0, 0);
+    }) }
     ensures gone { IfOk result (λ _. live_at core.new.views 1 ≡ None) }
 {
     core.run(&[

@@ -17,11 +17,11 @@ leads_with-upper price g grain budget x a m priced =
     rw (worth-cons price g grain budget x a m)
     (if_le (is_move_of g x a && nat_le (price a) budget) _ _ (map_le (move_gain_of g x a) _ _ (best_plan-upper price g grain (budget - price a) (move_on_of g grain x a) m priced)))
 
-cond_below : (c : Bool) (o r : Option ℕ) → (c ≡ true → option_le o r) → option_le (if c then o else None) r
+pub cond_below : (c : Bool) (o r : Option ℕ) → (c ≡ true → option_le o r) → option_le (if c then o else None) r
 cond_below true o r h = h refl
 cond_below false o r h = tt
 
-if_below : (m : Bool) (p b : ℕ) (o r : Option ℕ) → (m ≡ true → p ≤ b → option_le o r) → option_le (if m && nat_le p b then o else None) r
+pub if_below : (m : Bool) (p b : ℕ) (o r : Option ℕ) → (m ≡ true → p ≤ b → option_le o r) → option_le (if m && nat_le p b then o else None) r
 if_below true p b o r h = cond_below (nat_le p b) o r (λ e. h refl (grind arith))
 if_below false p b o r h = tt
 

@@ -8,3 +8,4 @@ pub mod Plans
 pub mod Products
 pub mod Reading
 pub mod Sizes
+pub mod RestPrices

@@ -14,6 +14,8 @@ use Rattle.relaxed_moves.specs.Moves.{RelaxedFields, AreRelaxed, IsNoBetter, is_
 use Rattle.relaxed_moves.specs.Optimum.{option_le, ArePriced, worth, best_plan}
 use Rattle.relaxed_moves.proofs.Greatest.{option_le-trans}
 use Rattle.relaxed_moves.proofs.Plans.{worth-nil, worth-cons, best_plan-upper, best_plan-least}
+use Rattle.plain_lemmas.proofs.Numbers.{if_le, if_bound, positive_more, none_left}
+use Rattle.plain_lemmas.proofs.Tests.{off_more, and_then}
 
 pub div-more : (a b k : ℕ) → 0 < k → a ≤ b → a / k ≤ b / k
 div-more a b k positive more = le-div (a / k) b k positive (omega (arith, div-add-mod' a k))
@@ -22,9 +24,6 @@ pub bonus-more : (a b : Bool) (p : ℕ) → (a ≡ true → b ≡ true) → bonu
 bonus-more true true p h = omega arith
 bonus-more true false p h = let e : false ≡ true = h refl in absurd (cc)
 bonus-more false b p h = omega arith
-
-positive-more : (n m : ℕ) → n ≤ m → nat_lt 0 n ≡ true → nat_lt 0 m ≡ true
-positive-more n m more h = grind arith
 
 pub progress_gain-more : (base p p' : ℕ) (v v' w w' : Bool) → p ≤ p' → (v ≡ true → v' ≡ true) → (w ≡ true → w' ≡ true) →
     progress_gain_of base p v w ≤ progress_gain_of base p' v' w'
@@ -43,15 +42,11 @@ efficiency-more : (g : SettingsFields) (n m : ℕ) (a : Action) → n ≤ m → 
 efficiency-more g n m ByregotsBlessing more = omega arith
 efficiency-more g n m _ more = omega arith
 
-if_le : (c : Bool) (a b a' b' : ℕ) → a ≤ a' → b ≤ b' → (if c then a else b) ≤ (if c then a' else b')
-if_le true a b a' b' h k = h
-if_le false a b a' b' h k = k
-
 pub move_gain-more : (g : SettingsFields) (x y : RelaxedFields) (a : Action) → IsNoBetter x y → move_gain_of g x a ≤ move_gain_of g y a
 unfolding move_gain_of
 move_gain-more g x y a worse =
     if_le (nat_lt 0 (row_of a g.level).quality) _ _ _ _
-    (quality_gain-more g.base_quality _ _ x.iq y.iq _ _ _ _ (efficiency-more g x.iq y.iq a worse.iq) worse.iq (positive-more _ _ worse.innovation) worse.strides)
+    (quality_gain-more g.base_quality _ _ x.iq y.iq _ _ _ _ (efficiency-more g x.iq y.iq a worse.iq) worse.iq (positive_more _ _ worse.innovation) worse.strides)
     (omega arith)
 
 bucket-more : (u b b' p p' : ℕ) → 0 < u → b' ≤ b → p ≤ p' → (b' * u - p') / u ≤ (b * u - p) / u
@@ -71,13 +66,9 @@ veneration-more : (n m : ℕ) (a : Action) → n ≤ m → move_veneration n a �
 veneration-more n m Veneration more = omega arith
 veneration-more n m _ more = omega arith
 
-off-more : (c s t : Bool) → (s ≡ true → t ≡ true) → (if c then false else s) ≡ true → (if c then false else t) ≡ true
-off-more true s t h k = k
-off-more false s t h k = h k
-
 strides-more : (g : SettingsFields) (s t : Bool) (a : Action) → (s ≡ true → t ≡ true) → move_strides g s a ≡ true → move_strides g t a ≡ true
 strides-more g s t GreatStrides h k = refl
-strides-more g s t a h k = off-more (nat_lt 0 (row_of a g.level).quality) s t h k
+strides-more g s t a h k = off_more (nat_lt 0 (row_of a g.level).quality) s t h k
 
 -- moving on keeps the order
 pub move_on-no_better : (g : SettingsFields) (grain : ℕ) (x y : RelaxedFields) (a : Action) → 0 < unit_of g grain → IsNoBetter x y →
@@ -85,12 +76,12 @@ pub move_on-no_better : (g : SettingsFields) (grain : ℕ) (x y : RelaxedFields)
 unfolding move_on_of
 move_on-no_better g grain x y a positive worse = record {
   bucket = bucket-more (unit_of g grain) x.bucket y.bucket (move_progress g x a) (move_progress g y a) positive worse.bucket
-      (progress_gain-more g.base_progress _ _ _ _ _ _ (omega arith) (positive-more _ _ worse.veneration) worse.muscle);
+      (progress_gain-more g.base_progress _ _ _ _ _ _ (omega arith) (positive_more _ _ worse.veneration) worse.muscle);
   iq = if_le (nat_lt 0 (row_of a g.level).quality) _ _ _ _ (iq-more g x.iq y.iq a worse.iq) worse.iq;
   innovation = innovation-more x.innovation y.innovation a worse.innovation;
   veneration = veneration-more x.veneration y.veneration a worse.veneration;
   strides = strides-more g x.strides y.strides a worse.strides;
-  muscle = off-more (nat_lt 0 (row_of a g.level).progress) x.muscle y.muscle worse.muscle;
+  muscle = off_more (nat_lt 0 (row_of a g.level).progress) x.muscle y.muscle worse.muscle;
 }
 
 iq_bound : (g : SettingsFields) (n : ℕ) (a : Action) → n ≤ 10 → iq_after g.level n Basic a ≤ 10
@@ -105,10 +96,6 @@ veneration_bound : (n : ℕ) (a : Action) → n ≤ 4 → move_veneration n a �
 veneration_bound n Veneration h = omega arith
 veneration_bound n _ h = omega arith
 
-if_bound : (c : Bool) (a b n : ℕ) → a ≤ n → b ≤ n → (if c then a else b) ≤ n
-if_bound true a b n h k = h
-if_bound false a b n h k = k
-
 pub AreRelaxed-move_on : (g : SettingsFields) (grain : ℕ) (x : RelaxedFields) (a : Action) → AreRelaxed x → AreRelaxed (move_on_of g grain x a)
 unfolding move_on_of
 AreRelaxed-move_on g grain x a bounds = record {
@@ -122,10 +109,6 @@ stacks-more x y ByregotsBlessing more bound h = grind arith
 stacks-more x y TrainedFinesse more bound h = grind arith
 stacks-more x y _ more bound h = refl
 
-and_then : (a b c : Bool) → (b ≡ true → c ≡ true) → (a && b) ≡ true → (a && c) ≡ true
-and_then true b c h k = h k
-and_then false b c h k = k
-
 pub is_move-more : (g : SettingsFields) (x y : RelaxedFields) (a : Action) → IsNoBetter x y → AreRelaxed y → is_move_of g x a ≡ true → is_move_of g y a ≡ true
 unfolding is_move_of
 is_move-more g x y a worse bounds h = and_then (is_listed g a) (has_stacks x a) (has_stacks y a) (stacks-more x y a worse.iq bounds.iq) h
@@ -135,7 +118,7 @@ may-more true true p b b' h more k = grind arith
 may-more true false p b b' h more k = let e : false ≡ true = h refl in absurd (cc)
 may-more false m' p b b' h more k = absurd (cc)
 
-step_le : (c c' : Bool) (s s' : ℕ) (o o' : Option ℕ) → (c ≡ true → c' ≡ true) → s ≤ s' → option_le o o' →
+pub step_le : (c c' : Bool) (s s' : ℕ) (o o' : Option ℕ) → (c ≡ true → c' ≡ true) → s ≤ s' → option_le o o' →
     option_le (if c then option_map (λ n. s + n) o else None) (if c' then option_map (λ n. s' + n) o' else None)
 step_le false c' s s' o o' h more le = tt
 step_le true false s s' o o' h more le = let e : false ≡ true = h refl in absurd (cc)
@@ -143,13 +126,10 @@ step_le true true s s' None o' h more le = tt
 step_le true true s s' (Some a) None h more le = absurd le
 step_le true true s s' (Some a) (Some b) h more le = omega arith
 
-empty_by : (c c' : Bool) → (c ≡ true → c' ≡ true) → option_le (if c then Some 0 else None) (if c' then Some 0 else None)
+pub empty_by : (c c' : Bool) → (c ≡ true → c' ≡ true) → option_le (if c then Some 0 else None) (if c' then Some 0 else None)
 empty_by true true h = omega arith
 empty_by true false h = let e : false ≡ true = h refl in absurd (cc)
 empty_by false c' h = tt
-
-none_left : (b b' : ℕ) → b' ≤ b → (b == 0) ≡ true → (b' == 0) ≡ true
-none_left b b' less e = grind arith
 
 empty_le : (b b' : ℕ) → b' ≤ b → option_le (if b == 0 then Some 0 else None) (if b' == 0 then Some 0 else None)
 empty_le b b' less = empty_by (b == 0) (b' == 0) (none_left b b' less)

@@ -71,10 +71,10 @@ pub worth-nil : (price : Action → ℕ) (g : SettingsFields) (grain budget : �
 unfolding worth
 worth-nil price g grain budget x = ap (λ b. if b then Some 0 else None) (none_paid budget (x.bucket == 0))
 
-may_pay : (m : Bool) (p b : ℕ) → m ≡ true → p ≤ b → (m && nat_le p b) ≡ true
+pub may_pay : (m : Bool) (p b : ℕ) → m ≡ true → p ≤ b → (m && nat_le p b) ≡ true
 may_pay m p b h paid = grind arith
 
-then_some : (c : Bool) (o : Option ℕ) (gain v : ℕ) → c ≡ true → o ≡ Some v → (if c then option_map (λ n. gain + n) o else None) ≡ Some (gain + v)
+pub then_some : (c : Bool) (o : Option ℕ) (gain v : ℕ) → c ≡ true → o ≡ Some v → (if c then option_map (λ n. gain + n) o else None) ≡ Some (gain + v)
 then_some c o gain v h e = rw (h, e) refl
 
 -- a move and then the best plan

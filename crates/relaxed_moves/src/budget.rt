@@ -78,7 +78,7 @@ pub fn potential(g: &Settings, s: &State) -> u32
     potential_by(g, &weights(g), s)
 }
 
-/// What the means of a state are worth, in CP, by the weights of the craft.
+/// The same as `potential`, by the weights of the craft, which a search makes once.
 #[tactic(auto, using(crate::proofs::Products::products, crate::proofs::Costs::small_weights), unfolding(crate::specs::Budget::potential_of))]
 pub fn potential_by(g: &Settings, weights: &Weights, s: &State) -> u32
     requires { AreWeights g.now weights.now }
@@ -119,7 +119,8 @@ pub fn start_potential(g: &Settings) -> u32
     g.cp + weights.rho * (g.durability / 5) + spare + weights.slack
 }
 
-/// What a relaxed move costs, in CP: its own CP and what its durability is worth.
+/// What a relaxed move costs, in CP: its own CP and what its durability is worth, 10 at least. The action is in the
+/// list of relaxed moves.
 pub fn move_cost(g: &Settings, action: Action) -> u32
     requires { IsTrue (is_listed g.now action) }
     ensures value { result ≡ cost_of g.now action }
@@ -128,7 +129,7 @@ pub fn move_cost(g: &Settings, action: Action) -> u32
     move_cost_by(g, &weights(g), action)
 }
 
-/// What a relaxed move costs, in CP, by the weights of the craft.
+/// The same as `move_cost`, by the weights of the craft, which a search makes once.
 #[tactic(auto, using(crate::proofs::Products::products, crate::proofs::Costs::small_weights), unfolding(crate::specs::Budget::cost_of))]
 pub fn move_cost_by(g: &Settings, weights: &Weights, action: Action) -> u32
     requires weights { AreWeights g.now weights.now }

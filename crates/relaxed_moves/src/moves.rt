@@ -37,7 +37,7 @@ pub fn is_move(g: &Settings, x: &Relaxed, action: Action) -> bool
     is_listed(g, action) && ready
 }
 
-/// The progress of a bucket: the recipe's, shared out over `grain` buckets and rounded up.
+/// The progress of a bucket, in points: the recipe's, shared out over `grain` buckets, 1 to 64, and rounded up.
 #[tactic(auto, using(crate::proofs::Products::unit_covers), unfolding(crate::specs::Moves::unit_of))]
 pub fn unit(g: &Settings, grain: u32) -> u32
     requires low { 1 ≤ grain }
@@ -50,7 +50,8 @@ pub fn unit(g: &Settings, grain: u32) -> u32
     g.progress.div_ceil(grain)
 }
 
-/// What the bounds see of a state.
+/// What the bounds see of a state of the craft, at a grain of 1 to 64: the bucket of the progress that is left, and the
+/// effects that raise gains.
 pub fn relax(g: &Settings, grain: u32, s: &State) -> Relaxed
     requires low { 1 ≤ grain }
     requires high { grain ≤ 64 }

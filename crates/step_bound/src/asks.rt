@@ -51,8 +51,10 @@ pub fn within(
     within_by(shared, seat, &Scale::new(&truth.g, truth.grain), s, j)
 }
 
-/// The limit of a state in at most `j` steps more, by the scale of the table's craft and grain, which a search makes
-/// once.
+/// The same as `within`, by the scale of the table's craft and grain, which a search makes once for all of its states:
+/// the most quality that counts of a macro through a live state after the first step, in at most `j` steps more; None
+/// where the progress can't be done in them. Above `MOST_MOVES` steps it is the most that counts at all. No memory is
+/// taken, and nobody is waited for.
 pub fn within_by(
     shared: &Shared<StepTruth>,
     seat: &mut Seat<StepTruth>,

@@ -19,7 +19,7 @@ use Rattle.relaxed_moves.proofs.Indices.{relaxed_at}
 use Rattle.relaxed_moves.proofs.FirstMoves.{leads-none, leads-take, leads-all}
 use Rattle.table_bound.proofs.Fits.{coded_small}
 use Rattle.table_bound.specs.Bounds.{BoundRules, AreBoundRules, optimum, entry_by}
-use Rattle.table_bound.specs.Columns.{IsColumn, IsColumnFrom, IsLowered, Leads, TakesIn, LeadsNowhere, LeadsDown, SeesBuckets}
+use Rattle.table_bound.specs.Columns.{IsColumn, IsColumnFrom, IsLowered, Leads, LeadsNowhere, LeadsDown, SeesBuckets}
 
 coded-injective : (a b : Option ℕ) → coded a ≡ coded b → a ≡ b
 coded-injective None None e = refl
@@ -39,6 +39,12 @@ max_plus-coded d gain (Some v) = grind arith
 coded_end : (bucket : ℕ) (t : Bool) → (if t then 1 else 0) ≡ coded (if t then Some 0 else None)
 coded_end bucket true = refl
 coded_end bucket false = refl
+
+-- the row has in each place the greater of what it had and what plans with this first move gain
+pub record TakesIn (r : BoundRules) (budget : ℕ) (x : RelaxedFields) (action : Action) (before after : List ℕ) : Type 0 where
+  pub at : (bucket : ℕ) → bucket < length before
+      → slice_index after bucket ≡ max (slice_index before bucket)
+      (coded (leads_with r.price r.g r.grain budget (at_bucket x bucket) action))
 
 -- the row of the empty list
 pub leads-begin : (r : BoundRules) (budget : ℕ) (x : RelaxedFields) (row : List ℕ)

@@ -1,5 +1,5 @@
 -- Columns: the optima of all buckets, for one budget and the same effects.
-use Rattle.std.specs.Prelude.{ℕ, ◌≡◌, ◌≤◌, ◌<◌, ◌+◌, ◌-◌, max, List, None, Contains, length, slice_index, take}
+use Rattle.std.specs.Prelude.{ℕ, ◌≡◌, ◌≤◌, ◌<◌, ◌+◌, ◌-◌, List, None, Contains, length, slice_index, take}
 use Rattle.std.specs.Option.{option_map}
 use Rattle.action_table.specs.declared.action.Action.{Action}
 use Rattle.action_table.specs.Table.{all_actions}
@@ -33,12 +33,6 @@ pub record IsLowered (r : BoundRules) (budget : ℕ) (x : RelaxedFields) (down :
 pub record Leads (r : BoundRules) (budget : ℕ) (x : RelaxedFields) (tried : ℕ) (row : List ℕ) : Type 0 where
   pub at : (bucket : ℕ) → bucket < length row → slice_index row bucket ≡
       coded (leads r.price r.g r.grain budget (at_bucket x bucket) (take tried all_actions))
-
--- the row has in each place the greater of what it had and what plans with this first move gain
-pub record TakesIn (r : BoundRules) (budget : ℕ) (x : RelaxedFields) (action : Action) (before after : List ℕ) : Type 0 where
-  pub at : (bucket : ℕ) → bucket < length before
-      → slice_index after bucket ≡ max (slice_index before bucket)
-      (coded (leads_with r.price r.g r.grain budget (at_bucket x bucket) action))
 
 -- the action leads to no plan, from any bucket
 pub record LeadsNowhere (r : BoundRules) (budget : ℕ) (x : RelaxedFields) (action : Action) : Type 0 where

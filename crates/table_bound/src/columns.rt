@@ -2,11 +2,11 @@
 ghost use Rattle.std.specs.Prelude.{◌≡◌, ℕ, ◌+◌, ◌<◌, ◌≤◌, length, IsTrue};
 ghost use Rattle.seat_tables.specs.Seats.{IsOf, StillSees};
 ghost use Rattle.relaxed_moves.specs.Scales.{IsScale};
-ghost use Rattle.table_bound.specs.Columns.{IsPlaced, IsColumn, IsColumnFrom, IsLowered, TakesIn, LeadsDown, SeesBuckets};
+ghost use Rattle.table_bound.specs.Columns.{IsPlaced, IsColumn, IsColumnFrom, IsLowered, SeesBuckets};
 
 use crate::bound::Bound;
 use crate::rows::{begin, entry_of_number, move_up, number_of_entry, spread};
-use crate::turns::{Turn, turn_by};
+use crate::turns::turn_by;
 use crate::words::{Column, column_of, look_at, tell};
 use action_table::Action;
 use lane_front::max_plus;
@@ -62,139 +62,84 @@ fn put_column<T: Bound>(shared: &Shared<T>, seat: &mut Seat<T>, column: &Column,
     }
 }
 
-// Takes in the plans that begin with an action, by a row for the column after it.
-#[cycle(columns)]
-fn take_in<T: Bound>(
-    shared: &Shared<T>,
-    seat: &mut Seat<T>,
-    truth: &T,
-    scale: &Scale,
-    column: &Column,
-    action: Action,
-    after: &mut [u32],
-    row: &mut [u32],
-)
-    requires of { IsOf shared.now seat.old }
-    requires truth { truth.now ≡ shared.now.truth }
-    requires scale { IsScale (T.rules shared.now.truth).g (T.rules shared.now.truth).grain scale.now }
-    requires column { IsPlaced (T.rules shared.now.truth) column.now.budget column.now.x column.now.bottom }
-    requires after { length after.old ≡ (T.rules shared.now.truth).grain + 1 }
-    requires row { length row.old ≡ (T.rules shared.now.truth).grain + 1 }
-    ensures of { IsOf shared.now seat.new }
-    ensures row { TakesIn (T.rules shared.now.truth) column.now.budget column.now.x action row.old row.new }
-    ensures still { StillSees seat.old.view seat.new.view }
-{
-    if let Some(turn) = turn_by(truth, scale, column, action) {
-        take_turn(shared, seat, scale, column, action, &turn, after, row);
-    }
-}
-
-// Takes in the plans that begin with a turn.
-#[cycle(columns)]
-fn take_turn<T: Bound>(
-    shared: &Shared<T>,
-    seat: &mut Seat<T>,
-    scale: &Scale,
-    column: &Column,
-    action: Action,
-    turn: &Turn,
-    after: &mut [u32],
-    row: &mut [u32],
-)
-    requires of { IsOf shared.now seat.old }
-    requires scale { IsScale (T.rules shared.now.truth).g (T.rules shared.now.truth).grain scale.now }
-    requires column { IsPlaced (T.rules shared.now.truth) column.now.budget column.now.x column.now.bottom }
-    requires turn { LeadsDown (T.rules shared.now.truth) column.now.budget column.now.x action turn.now.column.budget turn.now.gain
-        turn.now.down turn.now.column.x }
-    requires placed { IsPlaced (T.rules shared.now.truth) turn.now.column.budget turn.now.column.x turn.now.column.bottom }
-    requires after { length after.old ≡ (T.rules shared.now.truth).grain + 1 }
-    requires row { length row.old ≡ (T.rules shared.now.truth).grain + 1 }
-    ensures of { IsOf shared.now seat.new }
-    ensures row { TakesIn (T.rules shared.now.truth) column.now.budget column.now.x action row.old row.new }
-    ensures still { StillSees seat.old.view seat.new.view }
-{
-    lowered(shared, seat, scale, &turn.column, turn.down, after);
-    max_plus(row, after, turn.gain);
+// What fills columns: the table, and the scale of its craft.
+#[derive(Drop)]
+struct Filler<'a, T: Bound> {
+    shared: &'a Shared<T>,
+    scale: &'a Scale,
+    ghost scales: { IsScale (T.rules shared.now.truth).g (T.rules shared.now.truth).grain scale.now },
 }
 
 // A column that is moved up, read or else filled.
 #[cycle(columns)]
 fn lowered<T: Bound>(
-    shared: &Shared<T>,
+    filler: &Filler<T>,
     seat: &mut Seat<T>,
-    scale: &Scale,
     column: &Column,
     down: usize,
     row: &mut [u32],
 )
-    requires of { IsOf shared.now seat.old }
-    requires scale { IsScale (T.rules shared.now.truth).g (T.rules shared.now.truth).grain scale.now }
-    requires column { IsPlaced (T.rules shared.now.truth) column.now.budget column.now.x column.now.bottom }
-    requires row { length row.old ≡ (T.rules shared.now.truth).grain + 1 }
-    requires down { down ≤ (T.rules shared.now.truth).grain }
-    ensures of { IsOf shared.now seat.new }
-    ensures row { IsLowered (T.rules shared.now.truth) column.now.budget column.now.x down row.new }
+    requires of { IsOf filler.now.shared.now seat.old }
+    requires column { IsPlaced (T.rules filler.now.shared.now.truth) column.now.budget column.now.x column.now.bottom }
+    requires row { length row.old ≡ (T.rules filler.now.shared.now.truth).grain + 1 }
+    requires down { down ≤ (T.rules filler.now.shared.now.truth).grain }
+    ensures of { IsOf filler.now.shared.now seat.new }
+    ensures row { IsLowered (T.rules filler.now.shared.now.truth) column.now.budget column.now.x down row.new }
     ensures still { StillSees seat.old.view seat.new.view }
 {
-    if read_from(shared, seat, column, down, row) {
+    if read_from(filler.shared, seat, column, down, row) {
         spread(row, down);
     } else {
-        fill(shared, seat, scale, column, row);
+        fill(filler, seat, column, row);
         move_up(row, down);
     }
 }
 
 // Fills a column.
 #[cycle(columns)]
-fn fill<T: Bound>(
-    shared: &Shared<T>,
-    seat: &mut Seat<T>,
-    scale: &Scale,
-    column: &Column,
-    row: &mut [u32],
-)
-    requires of { IsOf shared.now seat.old }
-    requires scale { IsScale (T.rules shared.now.truth).g (T.rules shared.now.truth).grain scale.now }
-    requires column { IsPlaced (T.rules shared.now.truth) column.now.budget column.now.x column.now.bottom }
-    requires row { length row.old ≡ (T.rules shared.now.truth).grain + 1 }
-    ensures of { IsOf shared.now seat.new }
-    ensures row { IsColumn (T.rules shared.now.truth) column.now.budget column.now.x row.new }
-    ensures seen { SeesBuckets ((T.rules shared.now.truth).grain + 1)
-        (T.rules shared.now.truth) column.now.budget column.now.x seat.new.view }
+fn fill<T: Bound>(filler: &Filler<T>, seat: &mut Seat<T>, column: &Column, row: &mut [u32])
+    requires of { IsOf filler.now.shared.now seat.old }
+    requires column { IsPlaced (T.rules filler.now.shared.now.truth) column.now.budget column.now.x column.now.bottom }
+    requires row { length row.old ≡ (T.rules filler.now.shared.now.truth).grain + 1 }
+    ensures of { IsOf filler.now.shared.now seat.new }
+    ensures row { IsColumn (T.rules filler.now.shared.now.truth) column.now.budget column.now.x row.new }
+    ensures seen { SeesBuckets ((T.rules filler.now.shared.now.truth).grain + 1)
+        (T.rules filler.now.shared.now.truth) column.now.budget column.now.x seat.new.view }
     ensures still { StillSees seat.old.view seat.new.view }
 {
     let mut after = [0u32; MOST_BUCKETS];
     let length = row.len();
-    fill_by(shared, seat, scale, column, &mut after[..length], row);
+    fill_by(filler, seat, column, &mut after[..length], row);
 }
 
 // The same, by a row for the columns after each move.
 #[cycle(columns)]
 fn fill_by<T: Bound>(
-    shared: &Shared<T>,
+    filler: &Filler<T>,
     seat: &mut Seat<T>,
-    scale: &Scale,
     column: &Column,
     after: &mut [u32],
     row: &mut [u32],
 )
-    requires of { IsOf shared.now seat.old }
-    requires scale { IsScale (T.rules shared.now.truth).g (T.rules shared.now.truth).grain scale.now }
-    requires column { IsPlaced (T.rules shared.now.truth) column.now.budget column.now.x column.now.bottom }
-    requires after { length after.old ≡ (T.rules shared.now.truth).grain + 1 }
-    requires row { length row.old ≡ (T.rules shared.now.truth).grain + 1 }
-    ensures of { IsOf shared.now seat.new }
-    ensures row { IsColumn (T.rules shared.now.truth) column.now.budget column.now.x row.new }
-    ensures seen { SeesBuckets ((T.rules shared.now.truth).grain + 1)
-        (T.rules shared.now.truth) column.now.budget column.now.x seat.new.view }
+    requires of { IsOf filler.now.shared.now seat.old }
+    requires column { IsPlaced (T.rules filler.now.shared.now.truth) column.now.budget column.now.x column.now.bottom }
+    requires after { length after.old ≡ (T.rules filler.now.shared.now.truth).grain + 1 }
+    requires row { length row.old ≡ (T.rules filler.now.shared.now.truth).grain + 1 }
+    ensures of { IsOf filler.now.shared.now seat.new }
+    ensures row { IsColumn (T.rules filler.now.shared.now.truth) column.now.budget column.now.x row.new }
+    ensures seen { SeesBuckets ((T.rules filler.now.shared.now.truth).grain + 1)
+        (T.rules filler.now.shared.now.truth) column.now.budget column.now.x seat.new.view }
     ensures still { StillSees seat.old.view seat.new.view }
 {
-    let truth = shared.truth();
+    let truth = filler.shared.truth();
     begin(row);
     for &action in Action::ALL.iter() {
-        take_in(shared, seat, &truth, scale, column, action, after, row);
+        if let Some(turn) = turn_by(&truth, filler.scale, column, action) {
+            lowered(filler, seat, &turn.column, turn.down, after);
+            max_plus(row, after, turn.gain);
+        }
     }
-    put_column(shared, seat, column, row);
+    put_column(filler.shared, seat, column, row);
 }
 
 /// Fills the column of a budget and the effects of `x`: for each bucket the number in `row`, which has one more than
@@ -218,5 +163,9 @@ pub fn fill_column<T: Bound>(
     let truth = shared.truth();
     let scale = Scale::new(truth.settings(), truth.grain());
     let column = column_of(&truth, budget, x);
-    fill(shared, seat, &scale, &column, row);
+    let filler = Filler {
+        shared,
+        scale: &scale,
+    };
+    fill(&filler, seat, &column, row);
 }

@@ -6,6 +6,7 @@ ghost use Rattle.craft_settings.specs.Ranges.{IsFromTo};
 ghost use Rattle.test_crafts.specs.Crafts.{craft_of};
 
 use craft_settings::Settings;
+use std::alloc::{AllocError, Global};
 
 /// One synthesis completes it, and nothing else can be done.
 pub const EASY: Settings = Settings {
@@ -73,6 +74,14 @@ pub const LARGE: Settings = Settings {
     target: 15000,
     ..EASY
 };
+
+/// The settings file of a craft with base values of 100, by its level, CP, durability, progress and quality.
+pub fn craft_file(alloc: Global, numbers: [u32; 5]) -> Result<String, AllocError> {
+    let [level, cp, durability, progress, quality] = numbers;
+    format!(in alloc;
+        "[crafter]\nlevel = {level}\ncp = {cp}\n[recipe]\ndurability = {durability}\nprogress = {progress}\nquality = {quality}\n[base]\nprogress = 100\nquality = 100\n"
+    )
+}
 
 // Drawn crafts, named by their levels.
 

@@ -5,8 +5,9 @@ use Rattle.front_check.specs.declared.level.RowsEnd.TheVariants.{BrokenRow, Whol
 use Rattle.front_check.specs.Judging.{claim_of}
 use Rattle.front_check.specs.Levels.{IsRowsEnd}
 use Rattle.certificate_text.proofs.WordByWord.{from_on}
-use Rattle.front_check.proofs.FromLevel.{no-line, other-line, last-reads, last-more, level-broken, level-whole, breaks-fit, rest-long, rest-is, is_none, is_some, next-long, coming-few, kept-go}
+use Rattle.front_check.proofs.FromLevel.{no-line, other-line, last-reads, last-more, level-broken, level-whole, breaks-fit, rest-long, rest-is, is_none, next-long, coming-few, kept-go}
 use Rattle.front_check.proofs.level.judge_level.Goals as goal
+use Rattle.plain_lemmas.proofs.Numbers.{above_zero}
 
 pub returns-in-None-clause-value : goal.returns-in-None-clause-value
 returns-in-None-clause-value g c = no-line c.args.claimed.now.g.now (claim_of c.args.claimed.now) c.args.level.now.number c.args.level.now.kept.now c.args.text.now (sym c.in-None.ensures)
@@ -21,7 +22,7 @@ returns-then-is_empty-clause-value g c =
 
 pub returns-then-count-eq0-clause-value : goal.returns-then-count-eq0-clause-value
 returns-then-count-eq0-clause-value g c =
-    last-more c.args.claimed.now.g.now (claim_of c.args.claimed.now) c.args.level.now.number c.args.level.now.kept.now c.args.text.now c.in-Some.end (sym c.in-Some.ensures) (c.in_ok-begins.ensures.0 c.if-not-begins.false) c.if-count-eq0.true (λ none. absurd (omega (arith, none, rest-is c.args.text.now (c.in-Some.end + 1), is_some _ c.if-is_empty.ensures)))
+    last-more c.args.claimed.now.g.now (claim_of c.args.claimed.now) c.args.level.now.number c.args.level.now.kept.now c.args.text.now c.in-Some.end (sym c.in-Some.ensures) (c.in_ok-begins.ensures.0 c.if-not-begins.false) c.if-count-eq0.true (λ none. absurd (omega (arith, none, rest-is c.args.text.now (c.in-Some.end + 1), above_zero _ c.if-is_empty.ensures)))
 
 pub look_ahead-requires : goal.look_ahead-requires
 look_ahead-requires g c = kept-go c.args.claimed.now.g.now c.args.level.now.number c.args.level.now.kept.now c.requires.kept

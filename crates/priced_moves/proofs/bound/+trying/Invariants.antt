@@ -9,7 +9,7 @@ decreases-best l = 2 * l.budget + 1
 abbrev pub decreases-lead : goal.decreases-lead
 decreases-lead l = 2 * l.budget
 
-abbrev pub invariant-best-loop-number : goal.invariant-best-loop-number
-invariant-best-loop-number l =
-    (l.most ≡ led l.terms.prices l.terms.settings l.terms.units l.budget l.x (take l.number all_actions))
+abbrev pub invariant-best-loop-action : goal.invariant-best-loop-action
+invariant-best-loop-action l =
+    (l.most ≡ led l.terms.prices l.terms.settings l.terms.units l.budget l.x (take l.action-index all_actions))
     × IfSome l.most (λ n. n ≤ 100000 * l.budget)

@@ -5,24 +5,18 @@ use Rattle.seat_tables.specs.Seats.{IsOf, StillSees}
 use Rattle.table_bound.specs.Columns.{Leads}
 use Rattle.table_bound.proofs.columns.+columns.Given as goal
 
-abbrev pub decreases-take_turn : goal.decreases-take_turn
-decreases-take_turn g l = l.column.now.budget / (g.T.Bound.rules l.shared.now.truth).least * 5
-
-abbrev pub decreases-take_in : goal.decreases-take_in
-decreases-take_in g l = l.column.now.budget / (g.T.Bound.rules l.shared.now.truth).least * 5 + 1
-
 abbrev pub decreases-fill_by : goal.decreases-fill_by
-decreases-fill_by g l = l.column.now.budget / (g.T.Bound.rules l.shared.now.truth).least * 5 + 2
+decreases-fill_by g l = l.column.now.budget / (g.T.Bound.rules l.filler.now.shared.now.truth).least * 3
 
 abbrev pub decreases-fill : goal.decreases-fill
-decreases-fill g l = l.column.now.budget / (g.T.Bound.rules l.shared.now.truth).least * 5 + 3
+decreases-fill g l = l.column.now.budget / (g.T.Bound.rules l.filler.now.shared.now.truth).least * 3 + 1
 
 abbrev pub decreases-lowered : goal.decreases-lowered
-decreases-lowered g l = l.column.now.budget / (g.T.Bound.rules l.shared.now.truth).least * 5 + 4
+decreases-lowered g l = l.column.now.budget / (g.T.Bound.rules l.filler.now.shared.now.truth).least * 3 + 2
 
 abbrev pub invariant-fill_by-loop-action : goal.invariant-fill_by-loop-action
 invariant-fill_by-loop-action g l = record {
-  of : IsOf l.shared l.seat;
+  of : IsOf l.filler.shared.now l.seat;
   still : StillSees l.fn.seat.view l.seat.view;
-  leads : Leads (g.T.Bound.rules l.shared.truth) l.column.budget l.column.x l.action-index l.row;
+  leads : Leads (g.T.Bound.rules l.filler.shared.now.truth) l.column.budget l.column.x l.action-index l.row;
 }
