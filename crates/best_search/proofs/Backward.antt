@@ -1,6 +1,6 @@
 -- From the last step of a run that completes back to its first state.
-use Rattle.std.proofs.Common.{ℕ, suc, true, false, List, [], ◌∷◌, Some, ◌≡◌, ◌+◌, length, refl, sym, subst, arith}
-use Rattle.plain_lemmas.proofs.Tests.{some_same, clash}
+use Rattle.std.proofs.Common.{ℕ, suc, true, false, List, [], ◌∷◌, Some, ◌≡◌, ◌+◌, length, refl, sym, subst}
+use Rattle.plain_lemmas.proofs.Tests.{some_same}
 use Rattle.action_table.specs.declared.action.Action.{Action}
 use Rattle.craft_state.specs.Craft.{StateFields}
 use Rattle.craft_settings.specs.Ranges.{SettingsFields}
@@ -10,14 +10,12 @@ use Rattle.step_rules.specs.Step.{step_of}
 use Rattle.step_rules.proofs.Bounds.{IsWithin-step}
 use Rattle.admissible.specs.Laws.{GoesOn, Finishes}
 use Rattle.admissible.proofs.Reached.{ran, complete_over, over-run}
+use Rattle.plain_lemmas.proofs.Numbers.{one_more}
 
 -- what holds where a step completes the craft, and before each step that goes on where it holds after it
 pub record HoldsBack (g : SettingsFields) (last : StateFields) (P : ℕ → StateFields → Type 0) : Type 0 where
   pub ends : (j : ℕ) (s : StateFields) (a : Action) → is_over g s ≡ false → Finishes g s a → step_of g s a ≡ last → P (j + 1) s
   pub next : (j : ℕ) (s : StateFields) (a : Action) → is_over g s ≡ false → GoesOn g s a → P j (step_of g s a) → P (j + 1) s
-
-one_more : (n : ℕ) → n + 1 ≡ suc n
-one_more n = omega arith
 
 -- it holds where a run begins, with as many steps left
 pub back : (g : SettingsFields) (last : StateFields) (P : ℕ → StateFields → Type 0) → HoldsBack g last P → is_complete g last ≡ true →

@@ -1,22 +1,21 @@
 -- The limits of a table by which steps are free are a ceiling.
-use Rattle.std.proofs.Common.{ℕ, true, false, List, Option, Some, ◌≡◌, ◌≤◌, ◌+◌, refl, sym, subst, arith}
-use Rattle.action_table.specs.declared.action.Action.{Action}
+use Rattle.std.proofs.Common.{ℕ, Option, Some, refl, sym, subst, arith}
 use Rattle.craft_state.specs.Craft.{StateFields}
 use Rattle.craft_settings.specs.Ranges.{SettingsFields}
-use Rattle.step_rules.specs.Legality.{is_complete, is_over, IsWithin}
+use Rattle.step_rules.specs.Legality.{IsWithin}
 use Rattle.step_rules.specs.Macro.{counted}
-use Rattle.step_rules.specs.Run.{run_of}
-use Rattle.step_rules.specs.Step.{step_of}
-use Rattle.step_rules.proofs.Bounds.{IsWithin-step}
 use Rattle.relaxed_moves.specs.Optimum.{option_le}
 use Rattle.relaxed_moves.proofs.Greatest.{option_le-trans}
-use Rattle.admissible.specs.Laws.{GoesOn, Finishes}
 use Rattle.prefix_fronts.specs.Prefix.{IsOpen}
-use Rattle.quality_sweep.specs.Ahead.{IsOutlook, IsCeiling}
-use Rattle.priced_bound.specs.Bounds.{BoundFields}
-use Rattle.priced_bound.proofs.Told.{bound-free, bound-last}
-use Rattle.best_search.specs.Looking.{IsFreeTable, free_limit}
+use Rattle.quality_sweep.specs.Ahead.{IsOutlook}
+use Rattle.priced_bound.specs.Bounds.{BoundFields, limit_in}
+use Rattle.priced_bound.specs.declared.reckoning.TheConstants.{MOST_LEFT}
+use Rattle.priced_bound.proofs.Told.{bound-free, bound-last, limit-below}
+use Rattle.best_search.specs.Looking.{IsFreeTable, free_promise}
 use Rattle.best_search.proofs.Backward.{HoldsBack, back}
+
+abbrev free_limit : BoundFields → StateFields → Option ℕ
+free_limit b s = limit_in b s MOST_LEFT
 
 -- the quality of the last state is no more than the limit
 abbrev Limited : SettingsFields → BoundFields → StateFields → ℕ → StateFields → Type 0
@@ -30,17 +29,20 @@ limits-back b last table = record {
       option_le-trans (Some (counted b.by.g last)) _ _ rest (bound-free b s a 300 table.table.reckoned table.free step (omega arith));
 }
 
-outlook : (b : BoundFields) (from : StateFields) → IsFreeTable b.by.g b → IsOpen b.by.g from → IsOutlook b.by.g (IsWithin b.by.g) (free_limit b) from
+outlook : (b : BoundFields) (from : StateFields) → IsFreeTable b.by.g b → IsOpen b.by.g from → IsOutlook b.by.g (IsWithin b.by.g) (free_promise b) from
 outlook b from table open_state = record {
   from_open = open_state;
   allowed = open_state.within;
   ceiling = record {
     next = λ s action here within legal after. after.within;
-    most = λ s here within later m last ran done. back b.by.g last (Limited b.by.g b last) (limits-back b last table) done s m here.within here.live ran;
+    most = λ s here within later m last ran done.
+        option_le-trans (Some (counted b.by.g last)) (free_limit b s) (free_promise b s)
+        (back b.by.g last (Limited b.by.g b last) (limits-back b last table) done s m here.within here.live ran)
+        (limit-below b s MOST_LEFT table.table.reckoned);
   };
 }
 
-pub is-outlook : (g : SettingsFields) (b : BoundFields) (from : StateFields) → IsFreeTable g b → IsOpen g from → IsOutlook g (IsWithin b.by.g) (free_limit b) from
+pub is-outlook : (g : SettingsFields) (b : BoundFields) (from : StateFields) → IsFreeTable g b → IsOpen g from → IsOutlook g (IsWithin b.by.g) (free_promise b) from
 is-outlook g b from table open_state =
-    subst (λ (h : SettingsFields). IsOutlook h (IsWithin b.by.g) (free_limit b) from) table.table.craft
+    subst (λ (h : SettingsFields). IsOutlook h (IsWithin b.by.g) (free_promise b) from) table.table.craft
     (outlook b from (record { table = record { craft = refl; reckoned = table.table.reckoned }; free = table.free }) (subst (λ (h : SettingsFields). IsOpen h from) (sym table.table.craft) open_state))

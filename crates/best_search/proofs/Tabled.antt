@@ -6,7 +6,7 @@ use Rattle.craft_state.specs.Craft.{StateFields}
 use Rattle.craft_settings.specs.Ranges.{SettingsFields}
 use Rattle.step_rules.specs.Legality.{IsWithin}
 use Rattle.prefix_fronts.specs.Prefix.{AreLimits, IsGreatestFrom, IsOpen}
-use Rattle.priced_bound.specs.Bounds.{BoundFields, IsWithinEach, AreTablesOf, all_pass, passes}
+use Rattle.priced_bound.specs.Bounds.{BoundFields, IsWithinEach, AreTablesOf}
 use Rattle.priced_bound.proofs.Told.{bounds-limits}
 use Rattle.priced_bound.specs.Reckoned.{AreReckoned, ReckoningFields}
 use Rattle.best_search.specs.Looking.{IsFreeTable, IsTable, test_of}

@@ -1,24 +1,22 @@
 -- How many actions the lists take that complete a craft with the greatest quality, and which of them is the best.
-use Rattle.std.proofs.Common.{◌≡◌, ◌≢◌, ◌∙◌, sym, ℕ, zero, suc, ◌+◌, ◌-◌, ◌*◌, ◌/◌, ◌<◌, ◌≤◌, Bool, true, false, ◌||◌, ◌&&◌, not, nat_le, ◌⊎◌, inl, inr, List, [], ◌∷◌, length, Some, arith, refl, ap, subst}
+use Rattle.std.proofs.Common.{◌≡◌, ◌∙◌, sym, ℕ, ◌+◌, ◌-◌, ◌/◌, ◌<◌, ◌≤◌, Bool, true, false, nat_le, inl, inr, List, [], ◌∷◌, length, Some, arith, refl, ap, subst}
 use Rattle.std.specs.List.{list_any}
-use Rattle.plain_lemmas.proofs.Places.{Contains-Among}
 use Rattle.plain_lemmas.proofs.Lists.{Among, Among-any}
-use Rattle.plain_lemmas.proofs.Tests.{and_by, bool_cases, clash, le_to, some_same}
+use Rattle.plain_lemmas.proofs.Tests.{and_by, bool_cases, clash, or_none}
 use Rattle.action_table.specs.declared.action.Action.{Action}
 use Rattle.action_table.specs.Table.{all_actions}
 use Rattle.craft_state.specs.Craft.{StateFields}
 use Rattle.craft_settings.specs.Ranges.{SettingsFields}
-use Rattle.step_rules.specs.Legality.{is_complete, is_legal, is_over, IsWithin}
-use Rattle.step_rules.specs.Macro.{counted, Completes}
+use Rattle.step_rules.specs.Legality.{is_complete, is_legal, is_over}
+use Rattle.step_rules.specs.Macro.{counted}
 use Rattle.step_rules.specs.Measure.{measure}
 use Rattle.step_rules.specs.Run.{run_of}
 use Rattle.step_rules.specs.Step.{step_of}
 use Rattle.step_rules.proofs.Bounds.{IsWithin-step}
 use Rattle.step_rules.proofs.Runs.{run_of-snoc}
-use Rattle.admissible.specs.Laws.{GoesOn, Finishes}
-use Rattle.admissible.proofs.Reached.{ran, over-run}
+use Rattle.admissible.proofs.Reached.{ran}
 use Rattle.macro_order.specs.Order.{IsBestFrom}
-use Rattle.prefix_fronts.specs.Prefix.{IsOpen, Prefix, Test, AreLimits, IsGreatestFrom, IsReachedFrom, extend, front, finishers, completions, goes_on}
+use Rattle.prefix_fronts.specs.Prefix.{IsOpen, Prefix, Test, AreLimits, IsGreatestFrom, IsReachedFrom, extend, completions}
 use Rattle.prefix_fronts.proofs.Best.{finishers-Among, finishers-long, first-best, no_legal_when_over, reached-at}
 use Rattle.prefix_fronts.proofs.Dominance.{goes_on-by}
 use Rattle.prefix_fronts.proofs.Fronts.{front-among}
@@ -106,7 +104,7 @@ takes-some g s target passes sought reached =
 
 -- ---- what a test lets through
 
-passes-back : (g : SettingsFields) (last : StateFields) (target : ℕ) (passes : Test) → AreLimits g target passes → target ≤ counted g last → HoldsBack g last (λ j s. passes j s ≡ true)
+pub passes-back : (g : SettingsFields) (last : StateFields) (target : ℕ) (passes : Test) → AreLimits g target passes → target ≤ counted g last → HoldsBack g last (λ j s. passes j s ≡ true)
 passes-back g last target passes limits enough = record {
   ends = λ j s a live step is.
       limits.last j s a step.within live step.legal step.done (subst (λ u. target ≤ counted g u) (sym is) enough);
@@ -115,10 +113,6 @@ passes-back g last target passes limits enough = record {
 
 two-or-more : (n : ℕ) → nat_le n 1 ≡ false → 2 ≤ n
 two-or-more n h = grind arith
-
-or-parts : (a b : Bool) → (a || b) ≡ false → (a ≡ false) × (b ≡ false)
-or-parts true b h = absurd (cc)
-or-parts false b h = (refl, h)
 
 -- a craft that is over takes no more actions
 too-long : (g : SettingsFields) (s last : StateFields) (m : List Action) → is_over g s ≡ true → run_of g s m ≡ Some last → 1 ≤ length m → ⊥
@@ -142,6 +136,6 @@ opens g s last target passes n (a ∷ m) is_open limits h done enough same two =
 -- where the test lets no list of n actions through, there is none with the quality
 pub not-through : (g : SettingsFields) (s : StateFields) (target : ℕ) (passes : Test) (n : ℕ) (answer : Bool) → IsOpen g s → AreLimits g target passes → answer ≡ lets_through g s passes n → answer ≡ false → TakesOther g s target n
 not-through g s target passes n answer is_open limits is none reached same =
-    let parts = or-parts (nat_le n 1) (list_any (goes_and_passes g passes (n - 1) s) all_actions) (sym is ∙ none) in
+    let parts = or_none (nat_le n 1) (list_any (goes_and_passes g passes (n - 1) s) all_actions) (sym is ∙ none) in
     let done = reached.completes in
     clash (opens g s done.last target passes n reached.actions is_open limits done.ran done.complete (omega (arith, reached.same)) same (two-or-more n parts.0)) parts.1

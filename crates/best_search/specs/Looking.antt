@@ -1,12 +1,12 @@
 -- What a search for the best macro looks for, and how far it has come.
-use Rattle.std.specs.Prelude.{ℕ, List, [], ◌∷◌, Option, ◌≡◌, ◌≢◌, ◌≤◌, Bool, ◌-◌, ◌||◌, nat_le, length}
+use Rattle.std.specs.Prelude.{ℕ, List, ◌∷◌, Option, ◌≡◌, ◌≢◌, ◌≤◌, Bool, ◌-◌, ◌||◌, nat_le, length}
 use Rattle.std.specs.List.{list_any}
 use Rattle.action_table.specs.Table.{all_actions}
 use Rattle.craft_state.specs.Craft.{StateFields}
 use Rattle.craft_settings.specs.Ranges.{SettingsFields}
 use Rattle.prefix_fronts.specs.Prefix.{Test, IsReachedFrom}
 use Rattle.front_walk.specs.Nodes.{goes_and_passes}
-use Rattle.priced_bound.specs.Bounds.{BoundFields, limit_in, all_pass}
+use Rattle.priced_bound.specs.Bounds.{BoundFields, promise_in, all_pass}
 use Rattle.priced_bound.specs.Reckoned.{AreReckoned}
 use Rattle.priced_bound.specs.declared.reckoning.TheConstants.{MOST_LEFT}
 
@@ -20,9 +20,9 @@ pub record IsFreeTable (g : SettingsFields) (b : BoundFields) : Type 0 where
   pub table : IsTable g b
   pub free : b.by.prices.step ≡ 0
 
--- what a table tells of a state with the most steps left
-abbrev pub free_limit : BoundFields → StateFields → Option ℕ
-free_limit b s = limit_in b s MOST_LEFT
+-- what a table promises of a state with the most steps left
+abbrev pub free_promise : BoundFields → StateFields → Option ℕ
+free_promise b s = promise_in b s MOST_LEFT
 
 -- a state passes the test of a table and those of others
 abbrev pub test_of : (target : ℕ) → BoundFields → List BoundFields → Test

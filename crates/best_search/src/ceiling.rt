@@ -11,7 +11,8 @@ use priced_bound::{MOST_LEFT, PricedBound};
 use quality_sweep::{Ceiling, Outlook, greatest_from};
 use std::alloc::Global;
 
-// What a table by which steps are free tells of states with the most steps left.
+// What a table by which steps are free promises of states with the most steps left. Quality that doesn't count is told
+// too, so that of states that may all reach what counts the most promising ones are looked at first.
 #[derive(Drop)]
 struct FreeCeiling<'a> {
     table: &'a PricedBound,
@@ -19,14 +20,14 @@ struct FreeCeiling<'a> {
 
 impl Ceiling for FreeCeiling<'_> {
     ghost use Rattle.step_rules.specs.Legality.{IsWithin};
-    ghost use Rattle.best_search.specs.Looking.{free_limit};
+    ghost use Rattle.best_search.specs.Looking.{free_promise};
 
     ghost allows = { λ c. IsWithin c.table.now.by.g };
 
-    ghost limit_of = { λ c. free_limit c.table.now };
+    ghost limit_of = { λ c. free_promise c.table.now };
 
     fn limit(&self, s: &State) -> Option<u32> {
-        self.table.limit(s, MOST_LEFT)
+        self.table.promise(s, MOST_LEFT)
     }
 }
 

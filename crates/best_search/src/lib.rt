@@ -13,6 +13,7 @@ mod aim;
 mod ceiling;
 mod goal;
 mod lengths;
+mod parts;
 mod tables;
 #[cfg(test)]
 mod tests;
@@ -24,6 +25,7 @@ use craft_state::State;
 use front_walk::Walker;
 use goal::Goal;
 use lengths::best_of_lengths;
+pub use parts::{best_with_quality, quality_from};
 use std::alloc::Global;
 use std::thread::Threads;
 use step_rules::start;

@@ -28,6 +28,24 @@ pub(crate) fn free_table<R: Threads + Sync, G, W>(
     table_of(crew, alloc, &by, from, MOST_LEFT)
 }
 
+/// The table by which steps are free, for a search of a quality. Where that is all the quality that counts the table
+/// would tell little beside the others, and one of a single unit of progress stands in its place.
+pub(crate) fn free_table_below<R: Threads + Sync, G, W>(
+    crew: &Crew<'_, R, G, W>,
+    alloc: Global,
+    g: &Settings,
+    from: &State,
+    target: u32,
+) -> Result<PricedBound, WantMemory>
+    ensures { IfOk result (IsFreeTable g.now) }
+{
+    if target < g.cap() {
+        return free_table(crew, alloc, g, from);
+    }
+    let by = Reckoning::new(g, Pricing::FreeSteps, 1);
+    table_of(crew, alloc, &by, from, MOST_LEFT)
+}
+
 /// A table that is filled soon and tells less.
 pub(crate) fn coarse_tables<R: Threads + Sync, G, W>(
     crew: &Crew<'_, R, G, W>,

@@ -1,6 +1,5 @@
 -- The bounds keep what the fronts ask of a test.
-use Rattle.std.proofs.Common.{◌≡◌, ◌∙◌, ℕ, ◌+◌, ◌-◌, ◌≤◌, Bool, true, false, ◌||◌, ◌&&◌, nat_le, Option, Some, None, arith, refl, ap, subst}
-use Rattle.std.proofs.lemmas.Bool.Decides.{nat_tests}
+use Rattle.std.proofs.Common.{◌≡◌, ◌∙◌, ℕ, ◌+◌, ◌-◌, ◌≤◌, true, false, ◌||◌, ◌&&◌, nat_le, Option, Some, None, arith, refl, ap, subst}
 use Rattle.craft_state.specs.Craft.{StateFields}
 use Rattle.craft_settings.specs.Ranges.{SettingsFields}
 use Rattle.step_rules.specs.Legality.{start_of}
@@ -11,29 +10,17 @@ use Rattle.prefix_fronts.specs.Prefix.{AreLimits}
 use Rattle.admissible.proofs.Limits.{Later, limit-law, within-law, last-limit, last-within}
 use Rattle.admissible.proofs.Reached.{first-step, limit-not_less, potential-start, within-not_less}
 use Rattle.level_search.specs.Reaching.{is_enough, reaches}
-
-le_trans : (a b c : ℕ) → nat_le a b ≡ true → b ≤ c → nat_le a c ≡ true
-le_trans a b c h k = grind (arith, nat_tests)
-
-le_test : (a b : ℕ) → a ≤ b → nat_le a b ≡ true
-le_test a b h = grind (arith, nat_tests)
+use Rattle.plain_lemmas.proofs.Tests.{and_both, passes_by, le_to, le_more}
+use Rattle.plain_lemmas.proofs.Numbers.{one_less}
 
 -- a greater bound is enough too
 enough-more : (target : ℕ) (o o' : Option ℕ) → option_le o o' → is_enough target o ≡ true → is_enough target o' ≡ true
 enough-more target None o' le h = absurd (cc)
 enough-more target (Some a) None le h = absurd le
-enough-more target (Some a) (Some b) le h = le_trans target a b h le
+enough-more target (Some a) (Some b) le h = le_more target a b h le
 
 enough-some : (target most : ℕ) (o : Option ℕ) → target ≤ most → option_le (Some most) o → is_enough target o ≡ true
-enough-some target most o h le = enough-more target (Some most) o le (le_test target most h)
-
-both : (a b : Bool) → (a && b) ≡ true → (a ≡ true) × (b ≡ true)
-both true b h = (refl, h)
-both false b h = absurd (cc)
-
-passes_by : (first a b : Bool) → a ≡ true → b ≡ true → (first || (a && b)) ≡ true
-passes_by true a b h k = refl
-passes_by false a b h k = rw (h, k) refl
+enough-some target most o h le = enough-more target (Some most) o le (le_to target most h)
 
 -- a state passes before the first step
 reaches-first : (g : SettingsFields) (grain target j : ℕ) (s : StateFields) → s.effects.first ≡ true → reaches g grain target j s ≡ true
@@ -49,10 +36,7 @@ reaches-parts : (g : SettingsFields) (grain target j : ℕ) (s : StateFields) �
     (is_enough target (within_of g grain s j) ≡ true) × (is_enough target (limit_of g grain s) ≡ true)
 unfolding reaches
 reaches-parts g grain target j s later h =
-    both _ _ (subst (λ b. (b || (is_enough target (within_of g grain s j) && is_enough target (limit_of g grain s))) ≡ true) later h)
-
-one_less : (j : ℕ) → j + 1 - 1 ≡ j
-one_less j = omega arith
+    and_both _ _ (subst (λ b. (b || (is_enough target (within_of g grain s j) && is_enough target (limit_of g grain s))) ≡ true) later h)
 
 -- by whether the first step is still to come
 by-first : (P : Type 0) (s : StateFields) → (s.effects.first ≡ true → P) → (s.effects.first ≡ false → P) → P
@@ -81,4 +65,4 @@ are_limits g grain target low = record {
 
 -- the start may be asked for
 pub start_allowed : (g : SettingsFields) → nat_le (potential_of g (start_of g)) (start_potential_of g) ≡ true
-start_allowed g = le_test _ _ (omega (arith, potential-start g))
+start_allowed g = le_to _ _ (omega (arith, potential-start g))

@@ -116,18 +116,20 @@ fn is_enough(most: Option<u32>) -> bool {
     }
 }
 
+// The two tables of bounds of a craft.
+#[derive(Drop)]
+struct Tables<'a> {
+    quality: &'a Shared<QualityTruth>,
+    steps: &'a Shared<StepTruth>,
+    ghost craft: { steps.now.truth.g ≡ quality.now.truth.g },
+}
+
 // Whether both limits of a live list reach the target, with so many actions left. Those of the empty list are the cap.
-fn reaches(
-    quality: &Shared<QualityTruth>,
-    steps: &Shared<StepTruth>,
-    searcher: &mut Searcher,
-    actions: &[Action],
-    left: u32,
-) -> bool
-    requires of { IsSearcherOf quality.now steps.now searcher.old }
-    requires craft { steps.now.truth.g ≡ quality.now.truth.g }
-    ensures of { IsSearcherOf quality.now steps.now searcher.new }
+fn reaches(tables: &Tables<'_>, searcher: &mut Searcher, actions: &[Action], left: u32) -> bool
+    requires of { IsSearcherOf tables.now.quality.now tables.now.steps.now searcher.old }
+    ensures of { IsSearcherOf tables.now.quality.now tables.now.steps.now searcher.new }
 {
+    let Tables { quality, steps } = *tables;
     let g = &quality.truth().g;
     if actions.is_empty() {
         return is_enough(Some(g.cap()));
@@ -153,19 +155,16 @@ fn push_numbers(numbers: &mut Vec<u8>, actions: &[Action]) -> Result<(), AllocEr
 
 // Lists those of these lists that survive, given all live lists of the length.
 fn push_survivors(
-    quality: &Shared<QualityTruth>,
-    steps: &Shared<StepTruth>,
+    tables: &Tables<'_>,
     searcher: &mut Searcher,
     lists: &[Live],
     left: u32,
     numbers: &mut Vec<u8>,
 ) -> Result<(), AllocError>
-    requires of { IsSearcherOf quality.now steps.now searcher.old }
-    requires craft { steps.now.truth.g ≡ quality.now.truth.g }
-    ensures of { IsSearcherOf quality.now steps.now searcher.new }
+    requires { IsSearcherOf tables.now.quality.now tables.now.steps.now searcher.old }
 {
     for live in lists {
-        if reaches(quality, steps, searcher, &live.actions, left) && !is_dominated(lists, live) {
+        if reaches(tables, searcher, &live.actions, left) && !is_dominated(lists, live) {
             push_numbers(numbers, &live.actions)?;
         }
     }
@@ -185,8 +184,12 @@ fn survivors(
         quality: quality_seat,
         steps: steps_seat,
     };
+    let tables = Tables {
+        quality: &quality,
+        steps: &steps,
+    };
     let mut numbers = Vec::new(alloc);
-    push_survivors(&quality, &steps, &mut searcher, lists, left, &mut numbers)?;
+    push_survivors(&tables, &mut searcher, lists, left, &mut numbers)?;
     Ok(numbers)
 }
 

@@ -1,14 +1,15 @@
-//! The best macro of a craft, by levels of the prefixes that no other dominates.
+//! The best macro of a craft, and how many prefixes that no other dominates there are of each length below its own.
 #![tactic(auto)]
 
-ghost use Rattle.std.specs.Prelude.{◌≡◌, ◌≤◌, ◌<◌, ◌-◌, ℕ, Some, IfOk, All, length, slice_index_or};
+ghost use Rattle.std.specs.Prelude.{◌≡◌, ◌≤◌, IfOk, All, length, slice_index_or};
 ghost use Rattle.std.specs.List.{AllZip};
 ghost use Rattle.step_rules.specs.Legality.{start_of};
 ghost use Rattle.step_rules.specs.Macro.{Completes, IsReached};
 ghost use Rattle.macro_order.specs.Order.{IsBest};
 ghost use Rattle.prefix_fronts.specs.Prefix.{IsGreatest};
 ghost use Rattle.front_walk.specs.Asking.{AllMayAsk, AllStillAsk};
-ghost use Rattle.level_search.specs.Answer.{TakesAtLeast, AreWithinLimits, HasQuality, IsFirst, Survives};
+ghost use Rattle.best_search.specs.Looking.{TakesAtLeast};
+ghost use Rattle.level_search.specs.Answer.{AreWithinLimits, HasQuality, Survives};
 ghost use Rattle.level_search.specs.Reaching.{front_sizes};
 ghost use Rattle.level_search.specs.Searching.{HasSeenWay, IsSearcherOf, StillSearches};
 ghost use Rattle.level_search.specs.declared.searcher.Searcher.{Searcher as SearcherFields};
@@ -22,8 +23,9 @@ mod tests;
 
 use action_table::{Action, WantMemory};
 use aim::Aim;
+use best_search::{best_with_quality, seekers};
 use craft_settings::Settings;
-use front_walk::{Completion, Walk, Walker, best_of};
+use front_walk::{Walk, Walker, sizes};
 use quality_bound::QualityTruth;
 use relaxed_moves::Scale;
 use searcher::{hire, release};
@@ -32,7 +34,7 @@ use seat_tables::Shared;
 use std::alloc::Global;
 use std::thread::Threads;
 use step_bound::StepTruth;
-use step_rules::{MOST_STEPS, start, step};
+use step_rules::{start, step};
 use worker_gate::{Crew, Gate};
 
 /// The best macro of a craft, with the number of survivors of each length below its own, and the searchers.
@@ -67,7 +69,7 @@ pub fn best_macro<G: Gate>(
     ensures target { IfOk result (λ r. HasQuality g.now r.0.actions.items target) }
     ensures counts { IfOk result (λ r. r.0.counts.items ≡ front_sizes g.now grain target (length r.0.actions.items)) }
     ensures inside { IfOk result (λ r. Survives g.now grain target r.0.actions.items) }
-    ensures shortest { IfOk result (λ r. TakesAtLeast g.now target (length r.0.actions.items)) }
+    ensures shortest { IfOk result (λ r. TakesAtLeast g.now (start_of g.now) target (length r.0.actions.items)) }
     ensures within { AreWithinLimits g.now grain }
     ensures as_many { IfOk result (λ r. length r.1.items ≡ length searchers.items) }
     ensures of { IfOk result (λ r. All (IsSearcherOf quality.now steps.now) r.1.items) }
@@ -82,53 +84,45 @@ pub fn best_macro<G: Gate>(
         steps,
         scale: Scale::new(g, grain),
     };
-    let (found, mut searchers) = walk_lengths(rt, alloc, gate, &aim, searchers)?;
-    ask_way(&aim, &mut searchers[0], &found.actions);
-    let Completion { actions, sizes } = found;
-    Ok((
-        FoundMacro {
-            actions,
-            counts: sizes,
-        },
-        searchers,
-    ))
+    let actions = best_actions(rt, alloc, gate, &aim, searchers.len() as u32)?;
+    let mut crew = Crew::new(rt, gate, hire(alloc, searchers)?);
+    let counts = count(&mut crew, alloc, &aim, actions.len() as u32)?;
+    let mut searchers = release(alloc, crew.into_workers())?;
+    ask_way(&aim, &mut searchers[0], &actions);
+    Ok((FoundMacro { actions, counts }, searchers))
 }
 
-// The first completion that is found, and the searchers.
-fn walk_lengths<G: Gate>(
+// The best macro, by so many workers.
+fn best_actions<G: Gate>(
     rt: &(impl Threads + Sync),
     alloc: Global,
     gate: &G,
     aim: &Aim<'_>,
-    searchers: Vec<Searcher>,
-) -> Result<(Completion, Vec<Searcher>), WantMemory>
-    requires low { 1 ≤ length searchers.items }
-    requires high { length searchers.items ≤ 64 }
-    requires of { All (IsSearcherOf aim.now.quality.now aim.now.steps.now) searchers.items }
+    workers: u32,
+) -> Result<Vec<Action>, WantMemory>
+    requires low { 1 ≤ workers }
+    requires high { workers ≤ 64 }
     requires reached { IsReached aim.now.g.now aim.now.target }
     requires greatest { IsGreatest aim.now.g.now aim.now.target }
-    ensures found { IfOk result (λ r. IsFirst aim.now.g.now aim.now.grain aim.now.target r.0.actions.items r.0.sizes.items) }
-    ensures of { IfOk result (λ r. All (IsSearcherOf aim.now.quality.now aim.now.steps.now) r.1.items) }
-    ensures still { IfOk result (λ r. AllZip StillSearches searchers.items r.1.items) }
+    ensures { IfOk result (λ m. IsBest aim.now.g.now m.items) }
 {
-    let mut crew = Crew::new(rt, gate, hire(alloc, searchers)?);
-    let found = first_found(&mut crew, alloc, aim)?;
-    let searchers = release(alloc, crew.into_workers())?;
-    Ok((found, searchers))
+    let mut crew = Crew::new(rt, gate, seekers(alloc, workers)?);
+    let from = start(aim.g);
+    best_with_quality(&mut crew, alloc, aim.g, &from, aim.target)
 }
 
-// The first completion that is found, by lengths upwards.
-fn first_found<R: Threads + Sync, G: Gate>(
+// How many survivors there are of each length below `n`.
+fn count<R: Threads + Sync, G: Gate>(
     crew: &mut Crew<'_, R, G, Walker<Searcher>>,
     alloc: Global,
     aim: &Aim<'_>,
-) -> Result<Completion, WantMemory>
+    n: u32,
+) -> Result<Vec<u64>, WantMemory>
+    requires some { 1 ≤ n }
     requires askers { AllMayAsk (IsSearcherOf aim.now.quality.now aim.now.steps.now) crew.old.workers }
-    requires reached { IsReached aim.now.g.now aim.now.target }
-    requires greatest { IsGreatest aim.now.g.now aim.now.target }
     ensures askers { AllMayAsk (IsSearcherOf aim.now.quality.now aim.now.steps.now) crew.new.workers }
     ensures still { AllStillAsk StillSearches crew.old.workers crew.new.workers }
-    ensures found { IfOk result (λ c. IsFirst aim.now.g.now aim.now.grain aim.now.target c.actions.items c.sizes.items) }
+    ensures counts { IfOk result (λ v. v.items ≡ front_sizes aim.now.g.now aim.now.grain aim.now.target n) }
 {
     let from = start(aim.g);
     let walk = Walk {
@@ -137,12 +131,7 @@ fn first_found<R: Threads + Sync, G: Gate>(
         target: aim.target,
         test: aim,
     };
-    for n in 1..MOST_STEPS + 1 {
-        if let Some(found) = best_of(crew, alloc, &walk, n)? {
-            return Ok(found);
-        }
-    }
-    unreachable!()
+    sizes(crew, alloc, &walk, n)
 }
 
 // Asks for both bounds of the state after each action of a macro but the last.

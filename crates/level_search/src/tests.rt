@@ -45,21 +45,28 @@ fn searchers(
     Ok(all)
 }
 
-// Whether the search finds this macro and these counts; the macro has the greatest quality that counts.
+// A craft, its best macro, which has the greatest quality that counts, and the counts of its levels.
+#[derive(Drop)]
+struct Case<'a> {
+    g: &'a Settings,
+    actions: &'a [Action],
+    counts: &'a [u64],
+}
+
+// Whether so many workers find the macro and the counts of a case.
 fn finds<G: Gate>(
     rt: &(impl Threads + Sync),
     alloc: Global,
     gate: &G,
-    g: &Settings,
     workers: u32,
-    actions: &[Action],
-    counts: &[u64],
+    case: &Case<'_>,
 ) -> Result<bool, WantMemory>
     requires low { 1 ≤ workers }
     requires high { workers ≤ 64 }
 {
+    let g = case.g;
     let target = g.quality.min(g.target);
-    let Some(best) = score(g, actions) else {
+    let Some(best) = score(g, case.actions) else {
         return Ok(false);
     };
     if best.quality != target {
@@ -75,8 +82,8 @@ fn finds<G: Gate>(
     let (found, back) = best_macro(rt, alloc, g, 16, target, &quality, &steps, all, gate)?;
     Ok(
         back.len() == workers as usize
-            && found.actions.as_slice() == actions
-            && found.counts.as_slice() == counts,
+            && found.actions.as_slice() == case.actions
+            && found.counts.as_slice() == case.counts,
     )
 }
 
@@ -166,24 +173,25 @@ fn finds_the_best_with_its_counts(rt: HostRuntime) -> Result<(), Fail> {
         (ground, &[MuscleMemory], &[1]),
     ];
     for (g, actions, counts) in &rows {
-        assert!(rt; finds(&rt, rt.alloc(), &FreeGate, g, 1, actions, counts).ok() == Some(true));
+        let case = Case {
+            g,
+            actions: *actions,
+            counts: *counts,
+        };
+        assert!(rt; finds(&rt, rt.alloc(), &FreeGate, 1, &case)?);
     }
     Ok(())
 }
 
 #[test]
 fn finds_the_same_with_more_workers(rt: HostRuntime) -> Result<(), Fail> {
+    let case = Case {
+        g: &ORDINARY,
+        actions: &SIX_ACTIONS,
+        counts: &SIX_COUNTS,
+    };
     for workers in [1, 2, 4, 64] {
-        let same = finds(
-            &rt,
-            rt.alloc(),
-            &FreeGate,
-            &ORDINARY,
-            workers,
-            &SIX_ACTIONS,
-            &SIX_COUNTS,
-        );
-        assert!(rt; same.ok() == Some(true));
+        assert!(rt; finds(&rt, rt.alloc(), &FreeGate, workers, &case)?);
     }
     Ok(())
 }
@@ -191,16 +199,12 @@ fn finds_the_same_with_more_workers(rt: HostRuntime) -> Result<(), Fail> {
 #[test]
 fn runs_two_workers_side_by_side(rt: HostRuntime) -> Result<(), Fail> {
     let gate = Meeting::new();
-    let same = finds(
-        &rt,
-        rt.alloc(),
-        &gate,
-        &ORDINARY,
-        2,
-        &SIX_ACTIONS,
-        &SIX_COUNTS,
-    );
-    assert!(rt; same.ok() == Some(true));
+    let case = Case {
+        g: &ORDINARY,
+        actions: &SIX_ACTIONS,
+        counts: &SIX_COUNTS,
+    };
+    assert!(rt; finds(&rt, rt.alloc(), &gate, 2, &case)?);
     assert!(rt; gate.have_met());
     Ok(())
 }

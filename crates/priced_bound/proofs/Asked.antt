@@ -1,18 +1,15 @@
 -- What the parts of a table tell is the greatest gain of lists of moves, cut.
-use Rattle.std.proofs.Common.{ℕ, Bool, true, false, List, Option, Some, None, ◌≡◌, ◌≤◌, ◌<◌, ◌+◌, ◌-◌, ◌*◌, nat_le, min, refl, ◌∙◌, ap, sym, subst, arith, if◌then◌else◌}
+use Rattle.std.proofs.Common.{ℕ, Bool, true, false, List, Option, None, ◌≡◌, ◌≤◌, ◌<◌, ◌+◌, ◌-◌, nat_le, min, refl, ◌∙◌, ap, sym, subst, arith, if◌then◌else◌}
 use Rattle.std.specs.Option.{option_map}
 use Rattle.std.proofs.lemmas.Bool.Decides.{nat_tests}
 use Rattle.plain_lemmas.proofs.Tests.{le_to}
-use Rattle.craft_settings.specs.Rules.{cap_of}
-use Rattle.craft_state.specs.Craft.{StateFields}
 use Rattle.craft_state.specs.declared.Combo.{Combo}
 use Rattle.craft_state.specs.declared.Combo.TheVariants.{NoCombo}
-use Rattle.relaxed_moves.specs.Optimum.{option_max, capped}
+use Rattle.relaxed_moves.specs.Optimum.{option_max}
 use Rattle.priced_moves.specs.declared.kinds.Edge.{Edge}
 use Rattle.priced_moves.specs.Edges.{combo_edges_of, greatest_edge}
 use Rattle.priced_moves.specs.FirstMoves.{at_need, without_combo}
 use Rattle.priced_moves.specs.Moves.{SeenFields}
-use Rattle.priced_moves.specs.Optimum.{best, in_points}
 use Rattle.priced_graph.specs.Graphs.{LeadsOn}
 use Rattle.priced_graph.specs.Sights.{SightsFields, IsSeenIn, sights_of, node_count, seen_at}
 use Rattle.priced_graph.specs.Ties.{best_cut}
@@ -23,7 +20,6 @@ use Rattle.priced_bound.specs.Bounds.{BoundFields}
 use Rattle.priced_bound.specs.Reckoned.{ReckoningFields, AreReckoned}
 use Rattle.priced_bound.specs.Tables.{IsTableOf, table_best, table_lead}
 use Rattle.priced_bound.specs.declared.choices.TheConstants.{MOST_WORTH}
-use Rattle.priced_bound.proofs.Cutting.{capped-cut}
 use Rattle.priced_bound.proofs.Told.{are-units}
 
 -- ---- without a combo
@@ -96,10 +92,3 @@ lead-paid r c budget need edge rest fits leads is =
 
 pub seen-needing : (c : SightsFields) (x : SeenFields) (need : ℕ) → IsSeenIn c x → IsSeenIn c (at_need x need)
 seen-needing c x need h = record { iq = h.iq; innovation = h.innovation; veneration = h.veneration; strides = h.strides; muscle = h.muscle; begun = h.begun }
-
--- ---- what counts
-
-pub counted-gain : (r : ReckoningFields) (s : StateFields) (budget : ℕ) (x : SeenFields) (gain : Option ℕ) → AreReckoned r → gain ≡ table_best r budget x →
-    capped r.g s (in_points r.units gain) ≡ capped r.g s (in_points r.units (best r.prices r.g r.units budget x))
-counted-gain r s budget x gain are is =
-    ap (λ (o : Option ℕ). capped r.g s (in_points r.units o)) is ∙ capped-cut r.g r.units s MOST_WORTH (best r.prices r.g r.units budget x) are.cap

@@ -1,11 +1,11 @@
 -- A gain that is cut at a word leaves the quality that counts as it is.
-use Rattle.std.proofs.Common.{ℕ, Option, Some, None, ◌≡◌, ◌≤◌, ◌<◌, ◌+◌, ◌*◌, min, refl, ◌∙◌, ap, arith, inl, inr}
+use Rattle.std.proofs.Common.{ℕ, Option, Some, None, ◌≡◌, ◌≤◌, ◌+◌, ◌*◌, min, refl, ◌∙◌, ap, arith, inl, inr}
 use Rattle.std.proofs.lemmas.Bool.{cases_lt}
 use Rattle.std.proofs.Math.Nat.{mul-le-mul_left}
 use Rattle.craft_settings.specs.Ranges.{SettingsFields}
 use Rattle.craft_settings.specs.Rules.{cap_of}
 use Rattle.craft_state.specs.Craft.{StateFields}
-use Rattle.relaxed_moves.specs.Optimum.{option_le, capped}
+use Rattle.relaxed_moves.specs.Optimum.{capped}
 use Rattle.priced_moves.specs.declared.kinds.Units.{Units}
 use Rattle.priced_moves.specs.Optimum.{in_points}
 use Rattle.priced_graph.specs.Ties.{cut}
@@ -24,8 +24,3 @@ pub capped-cut : (g : SettingsFields) (units : Units) (s : StateFields) (most : 
     capped g s (in_points units (cut most o)) ≡ capped g s (in_points units o)
 capped-cut g units s most None enough = refl
 capped-cut g units s most (Some n) enough = ap (λ (m : ℕ). Some m) (cut_sum (cap_of g) s.quality units.quality most n enough)
-
--- no more than what counts
-pub capped-low : (g : SettingsFields) (s : StateFields) (o : Option ℕ) → option_le (capped g s o) (Some (cap_of g))
-capped-low g s None = tt
-capped-low g s (Some n) = omega arith

@@ -1,9 +1,8 @@
 -- Lists of the edges that a combo adds, sight by sight.
-use Rattle.std.proofs.Common.{ℕ, zero, suc, add-one, drop-cons, List, [], ◌∷◌, ◌++◌, Vec, Option, Some, None, ◌≡◌, ◌<◌, ◌≤◌, ◌+◌, ◌-◌, min, length, get_or, drop, refl, ◌∙◌, ap, sym, subst, arith, inl, inr, length-append}
+use Rattle.std.proofs.Common.{ℕ, zero, suc, add-one, drop-cons, List, [], ◌∷◌, ◌++◌, Vec, Option, ◌≡◌, ◌<◌, ◌≤◌, ◌+◌, length, get_or, drop, refl, ◌∙◌, ap, sym, subst, arith, inl, inr, length-append}
 use Rattle.std.proofs.lemmas.Bool.{cases_lt}
 use Rattle.std.proofs.lemmas.List.{get_or_append_left, get_or_push}
 use Rattle.craft_state.specs.declared.Combo.{Combo}
-use Rattle.craft_state.specs.declared.Combo.TheVariants.{NoCombo}
 use Rattle.relaxed_moves.specs.Optimum.{option_max}
 use Rattle.relaxed_moves.proofs.Greatest.{option_max-assoc, option_max-none}
 use Rattle.priced_moves.specs.declared.kinds.Edge.{Edge}
@@ -15,10 +14,9 @@ use Rattle.priced_graph.specs.Sights.{SightsFields, IsSeenIn, sights_of, node_co
 use Rattle.priced_graph.specs.Graphs.{LeadOn}
 use Rattle.priced_graph.proofs.Closed.{combo-edges-lead_on}
 use Rattle.priced_graph.proofs.Digits.{seen-number}
-use Rattle.priced_graph.proofs.Tied.{combo-best}
 use Rattle.priced_bound.specs.Bounds.{BoundFields}
 use Rattle.priced_bound.specs.Reckoned.{ReckoningFields, AreReckoned}
-use Rattle.priced_bound.specs.Tables.{with_combo, combo_edges_at, AreComboLists, table_best, table_lead}
+use Rattle.priced_bound.specs.Tables.{with_combo, combo_edges_at, AreComboLists}
 
 pub none-listed : {A : Type 0} (r : ReckoningFields) (combo : Combo) (lists : List (Vec Edge A)) → lists ≡ [] → AreComboLists r combo 0 lists
 none-listed r combo lists none = record {

@@ -1,12 +1,12 @@
 -- Effects that are seen, and that a legal step leads to no others than allowed actions do.
-use Rattle.std.proofs.Common.{ℕ, Bool, true, false, ◌≡◌, ◌≤◌, ◌<◌, ◌+◌, ◌-◌, ◌&&◌, nat_lt, nat_le, min, refl, ◌∙◌, ap, sym, subst, arith, if◌then◌else◌}
+use Rattle.std.proofs.Common.{ℕ, Bool, true, false, ◌≡◌, ◌≤◌, ◌<◌, ◌+◌, ◌-◌, ◌&&◌, nat_lt, nat_le, min, refl, sym, subst, arith, if◌then◌else◌}
 use Rattle.std.proofs.lemmas.Bool.Decides.{nat_tests}
-use Rattle.plain_lemmas.proofs.Tests.{and_both, and_by, lt_to, bit_small}
+use Rattle.plain_lemmas.proofs.Tests.{and_both, and_by, lt_to, bit_small, lt_from}
 use Rattle.action_table.specs.declared.action.Action.{Action}
-use Rattle.action_table.specs.declared.action.Action.TheVariants.{BasicSynthesis, Innovation, Veneration, GreatStrides, MuscleMemory, ByregotsBlessing}
+use Rattle.action_table.specs.declared.action.Action.TheVariants.{Innovation, Veneration, GreatStrides, MuscleMemory, ByregotsBlessing}
 use Rattle.action_table.specs.Table.{row_of}
 use Rattle.combo_effects.specs.Combos.{tick_of, after_of}
-use Rattle.combo_effects.specs.Touches.{iq_after, stacks_of}
+use Rattle.combo_effects.specs.Touches.{iq_after}
 use Rattle.craft_settings.specs.Ranges.{SettingsFields}
 use Rattle.craft_settings.specs.Rules.{is_allowed}
 use Rattle.craft_state.specs.Craft.{EffectFields, StateFields}
@@ -18,14 +18,12 @@ use Rattle.admissible.proofs.Potential.{allowed-now}
 use Rattle.relaxed_moves.specs.Places.{bit}
 use Rattle.priced_moves.specs.declared.kinds.Units.{Units}
 use Rattle.priced_moves.specs.Moves.{SeenFields, seen_of}
-use Rattle.priced_laws.proofs.Seeing.{step-effects}
+use Rattle.priced_laws.proofs.Seeing.{step-effects, after-iq}
 use Rattle.priced_graph.specs.Sights.{SightsFields, IsSeenIn, sights_of}
 use Rattle.priced_bound.specs.Bounds.{is_seen_in}
+use Rattle.plain_lemmas.proofs.Numbers.{if_below}
 
 -- ---- as a test
-
-lt_of : (a b : ℕ) → nat_lt a b ≡ true → a < b
-lt_of a b h = grind (arith, nat_tests)
 
 pub seen-yes : (c : SightsFields) (x : SeenFields) → IsSeenIn c x → is_seen_in c x ≡ true
 seen-yes c x h =
@@ -40,21 +38,15 @@ seen-by c x h =
     let e = and_both (nat_lt (bit x.strides) c.strides) _ d.1 in
     let f = and_both (nat_lt (bit x.muscle) c.muscle) (nat_lt (bit x.begun) c.begun) e.1 in
     record {
-      iq = lt_of _ _ a.0;
-      innovation = lt_of _ _ b.0;
-      veneration = lt_of _ _ d.0;
-      strides = lt_of _ _ e.0;
-      muscle = lt_of _ _ f.0;
-      begun = lt_of _ _ f.1;
+      iq = lt_from _ _ a.0;
+      innovation = lt_from _ _ b.0;
+      veneration = lt_from _ _ d.0;
+      strides = lt_from _ _ e.0;
+      muscle = lt_from _ _ f.0;
+      begun = lt_from _ _ f.1;
     }
 
 -- ---- the effects after a step
-
-after-iq : (g : SettingsFields) (e : EffectFields) (a : Action) →
-    (after_of (tick_of (used_effects g e a)) a).iq ≡ (if nat_lt 0 (row_of a g.level).quality then iq_after g.level e.iq e.combo a else e.iq)
-unfolding tick_of after_of
-after-iq g e BasicSynthesis = refl
-after-iq g e a = refl
 
 capped_stacks : (c : Bool) (iq more n : ℕ) → n ≡ (if c then 11 else 1) → iq < n → (if c then min 10 (iq + more) else iq) < n
 capped_stacks true iq more n count h = omega arith
@@ -64,14 +56,10 @@ touched_iq : (g : SettingsFields) (iq n : ℕ) (combo : Combo) (a : Action) → 
 touched_iq g iq n combo ByregotsBlessing count h = omega arith
 touched_iq g iq n combo a count h = capped_stacks (nat_le 11 g.level) iq _ n count h
 
-either_below : (c : Bool) (a b n : ℕ) → a < n → b < n → (if c then a else b) < n
-either_below true a b n h k = h
-either_below false a b n h k = k
-
 iq-within : (g : SettingsFields) (e : EffectFields) (a : Action) (n : ℕ) → n ≡ (if nat_le 11 g.level then 11 else 1) → e.iq < n → (after_of (tick_of (used_effects g e a)) a).iq < n
 iq-within g e a n count h =
     subst (λ (m : ℕ). m < n) (sym (after-iq g e a))
-    (either_below (nat_lt 0 (row_of a g.level).quality) (iq_after g.level e.iq e.combo a) e.iq n (touched_iq g e.iq n e.combo a count h) h)
+    (if_below (nat_lt 0 (row_of a g.level).quality) (iq_after g.level e.iq e.combo a) e.iq n (touched_iq g e.iq n e.combo a count h) h)
 
 four_within : (c : Bool) (n : ℕ) → c ≡ true → n ≡ (if c then 5 else 1) → 4 < n
 four_within true n allowed count = omega arith

@@ -1,10 +1,11 @@
 -- Limits and tests of a table: what holds where it tells of a state, and where it doesn't.
-use Rattle.std.proofs.Common.{ℕ, Bool, true, false, List, [], ◌∷◌, Option, Some, None, ◌≡◌, ◌≤◌, ◌<◌, ◌+◌, ◌-◌, ◌*◌, ◌/◌, ◌&&◌, ◌||◌, not, nat_lt, nat_le, min, refl, ◌∙◌, ap, sym, subst, arith, inl, inr, if◌then◌else◌}
+use Rattle.std.proofs.Common.{ℕ, Bool, true, false, List, [], ◌∷◌, Option, Some, None, ◌≡◌, ◌≤◌, ◌<◌, ◌+◌, ◌-◌, ◌*◌, ◌/◌, ◌&&◌, ◌||◌, not, nat_lt, nat_le, min, refl, ◌∙◌, ap, sym, subst, arith, inl, inr}
+use Rattle.std.specs.Option.{option_map}
 use Rattle.std.proofs.lemmas.Bool.Decides.{nat_tests}
 use Rattle.std.proofs.lemmas.Nat.{mul-le}
-use Rattle.plain_lemmas.proofs.Tests.{bool_cases, clash, and_both, and_by, le_to, le_from, not_true}
+use Rattle.plain_lemmas.proofs.Tests.{bool_cases, clash, and_both, and_by, le_to, le_from, not_true, passes_by, some_test, some_by}
 use Rattle.action_table.specs.declared.action.Action.{Action}
-use Rattle.craft_settings.specs.Ranges.{SettingsFields}
+use Rattle.craft_settings.specs.Ranges.{SettingsFields, AreSettings}
 use Rattle.craft_settings.specs.Rules.{cap_of}
 use Rattle.craft_state.specs.Craft.{StateFields, AreEffects}
 use Rattle.craft_state.specs.NotLess.{IsNotLess}
@@ -13,7 +14,7 @@ use Rattle.step_rules.specs.Macro.{counted}
 use Rattle.step_rules.specs.Step.{step_of}
 use Rattle.admissible.specs.Laws.{GoesOn, Finishes}
 use Rattle.admissible.proofs.Reached.{first-step}
-use Rattle.prefix_fronts.specs.Prefix.{Test, AreLimits}
+use Rattle.prefix_fronts.specs.Prefix.{AreLimits}
 use Rattle.relaxed_moves.specs.Optimum.{option_le, capped}
 use Rattle.relaxed_moves.specs.Places.{bit}
 use Rattle.relaxed_moves.proofs.Greatest.{option_le-trans}
@@ -21,21 +22,25 @@ use Rattle.priced_moves.specs.declared.kinds.Prices.{Prices}
 use Rattle.priced_moves.specs.declared.kinds.Units.{Units}
 use Rattle.priced_moves.specs.Moves.{SeenFields, AreUnits, AreSmallUnits, seen_of, progress_units}
 use Rattle.priced_moves.proofs.Rounding.{ceiling-more}
-use Rattle.priced_moves.specs.Prices.{spared, raw_worth, worth_of}
+use Rattle.priced_moves.specs.Prices.{spared, worth_of}
 use Rattle.priced_moves.specs.Optimum.{limit_of, is_enough, in_points, best}
-use Rattle.priced_laws.specs.Laws.{GoesLater, FinishesLater}
+use Rattle.priced_laws.specs.Laws.{GoesLater}
 use Rattle.priced_laws.proofs.Limits.{limit-step, limit-last, limit-not_less, worth-not_less}
 use Rattle.priced_laws.proofs.Reached.{limit-free}
-use Rattle.priced_laws.proofs.Reaching.{AreLimits-both}
+use Rattle.priced_laws.proofs.Reaching.{AreLimits-both, enough-more, by-first}
 use Rattle.priced_laws.proofs.Worth.{worth-rest}
 use Rattle.priced_graph.specs.Sights.{sights_of}
-use Rattle.priced_bound.specs.Bounds.{BoundFields, is_seen_in, is_told, has_sight, limit_in, passes, all_pass, AreTablesOf}
+use Rattle.priced_graph.specs.Ties.{cut}
+use Rattle.priced_bound.specs.Bounds.{BoundFields, is_seen_in, is_told, has_sight, limit_in, passes, promise_in, promise_of, all_pass, AreTablesOf}
 use Rattle.priced_bound.specs.Places.{IsPlace}
 use Rattle.priced_bound.specs.Reckoned.{ReckoningFields, AreReckoned}
 use Rattle.priced_bound.specs.declared.bound.Place.{Place}
-use Rattle.priced_bound.specs.declared.reckoning.TheConstants.{MOST_LEFT}
-use Rattle.priced_bound.proofs.Cutting.{capped-low}
+use Rattle.priced_bound.specs.declared.reckoning.TheConstants.{MOST_LEFT, MOST_PROMISE}
+use Rattle.priced_bound.specs.Tables.{table_best}
+use Rattle.priced_bound.specs.declared.choices.TheConstants.{MOST_WORTH}
+use Rattle.priced_bound.proofs.Cutting.{capped-cut}
 use Rattle.priced_bound.proofs.Sighted.{seen-yes, seen-by, sight-step}
+use Rattle.admissible.proofs.Limits.{capped-most}
 
 pub are-units : (units : Units) → AreSmallUnits units → AreUnits units
 are-units units h = record { progress = h.progress; quality = h.quality }
@@ -72,7 +77,7 @@ untold-limit b s left untold = rw untold refl
 
 limit_of-low : (b : BoundFields) (s : StateFields) (left : ℕ) → option_le (limit_of b.by.prices b.by.g b.by.units s left) (Some (cap_of b.by.g))
 unfolding limit_of
-limit_of-low b s left = capped-low b.by.g s _
+limit_of-low b s left = capped-most b.by.g s _
 
 -- no limit is above what counts
 pub limit-low : (b : BoundFields) (s : StateFields) (left : ℕ) → option_le (limit_in b s left) (Some (cap_of b.by.g))
@@ -198,23 +203,8 @@ bound-free b s a left are free step many =
 more_enough : (target a b : ℕ) → nat_le target a ≡ true → a ≤ b → nat_le target b ≡ true
 more_enough target a b h less = grind (arith, nat_tests)
 
-enough-more : (target : ℕ) (o o' : Option ℕ) → option_le o o' → is_enough target o ≡ true → is_enough target o' ≡ true
-enough-more target None o' le h = absurd (cc)
-enough-more target (Some a) None le h = absurd le
-enough-more target (Some a) (Some b) le h = more_enough target a b h le
-
 pass_first : (first a : Bool) → first ≡ true → (first || a) ≡ true
 pass_first first a h = rw h refl
-
-pass_by : (first a b : Bool) → a ≡ true → b ≡ true → (first || (a && b)) ≡ true
-pass_by true a b h k = refl
-pass_by false a b h k = rw (h, k) refl
-
-some_left : (j : ℕ) → 1 ≤ j → nat_lt 0 j ≡ true
-some_left j h = grind arith
-
-left_some : (j : ℕ) → nat_lt 0 j ≡ true → 1 ≤ j
-left_some j h = grind arith
 
 passes-first : (b : BoundFields) (target left : ℕ) (s : StateFields) → s.effects.first ≡ true → passes b target left s ≡ true
 unfolding passes
@@ -222,7 +212,7 @@ passes-first b target left s first = pass_first s.effects.first _ first
 
 passes-by : (b : BoundFields) (target left : ℕ) (s : StateFields) → 1 ≤ left → is_enough target (limit_in b s left) ≡ true → passes b target left s ≡ true
 unfolding passes
-passes-by b target left s some enough = pass_by s.effects.first (nat_lt 0 left) (is_enough target (limit_in b s left)) (some_left left some) enough
+passes-by b target left s some enough = passes_by s.effects.first (nat_lt 0 left) (is_enough target (limit_in b s left)) (some_test left some) enough
 
 parts_of : (first a b : Bool) → first ≡ false → (first || (a && b)) ≡ true → (a ≡ true) × (b ≡ true)
 parts_of true a b later h = absurd (cc)
@@ -232,10 +222,7 @@ passes-parts : (b : BoundFields) (target left : ℕ) (s : StateFields) → s.eff
 unfolding passes
 passes-parts b target left s later h =
     let parts = parts_of s.effects.first (nat_lt 0 left) (is_enough target (limit_in b s left)) later h in
-    (left_some left parts.0, parts.1)
-
-by-first : (P : Type 0) (s : StateFields) → (s.effects.first ≡ true → P) → (s.effects.first ≡ false → P) → P
-by-first P s to_come over = elim (s.effects.first) as (λ b. s.effects.first ≡ b → P) [ true ↦ to_come | false ↦ over ] refl
+    (some_by left parts.0, parts.1)
 
 pub bound-limits : (b : BoundFields) (target : ℕ) → AreReckoned b.by → AreLimits b.by.g target (passes b target)
 bound-limits b target are = record {
@@ -308,10 +295,49 @@ place-of b s left place are budget seen first few paid has = record {
   need = subst (λ (x : SeenFields). x.need ≤ progress_units b.by.units b.by.g.progress) (sym seen) (seen-need b.by.g b.by.units s are.units);
 }
 
-pub place-limit : (b : BoundFields) (s : StateFields) (left : ℕ) (place : Place) → IsPlace b s left place →
-    capped b.by.g s (in_points b.by.units (best b.by.prices b.by.g b.by.units place.budget place.seen)) ≡ limit_in b s left
+pub promise-told : (b : BoundFields) (s : StateFields) (left : ℕ) → is_told b s left ≡ true →
+    promise_in b s left ≡ promise_of b.by s (table_best b.by (worth_of b.by.prices s left) (seen_of b.by.g b.by.units s))
+unfolding promise_in
+promise-told b s left told = rw told refl
+
+pub promise-untold : (b : BoundFields) (s : StateFields) (left : ℕ) → is_told b s left ≡ false → promise_in b s left ≡ Some (cap_of b.by.g)
+unfolding promise_in
+promise-untold b s left untold = rw untold refl
+
+pub place-promise : (b : BoundFields) (s : StateFields) (left : ℕ) (place : Place) → IsPlace b s left place → promise_of b.by s (table_best b.by place.budget place.seen) ≡ promise_in b s left
+place-promise b s left place at =
+    ap (λ (n : ℕ). promise_of b.by s (table_best b.by n place.seen)) at.budget
+    ∙ ap (λ (x : SeenFields). promise_of b.by s (table_best b.by (worth_of b.by.prices s left) x)) at.seen
+    ∙ sym (promise-told b s left at.told)
+
+-- ---- a limit is a promise of which only what counts is taken
+
+cap_small : (g : SettingsFields) → AreSettings g → cap_of g ≤ MOST_PROMISE
+cap_small g are = let high = are.quality in omega arith
+
+capped-promise : (r : ReckoningFields) (s : StateFields) (o : Option ℕ) → cap_of r.g ≤ MOST_PROMISE →
+    capped r.g s (in_points r.units o) ≡ option_map (λ n. min (cap_of r.g) n) (promise_of r s o)
+capped-promise r s None small = refl
+capped-promise r s (Some n) small = ap (λ (m : ℕ). Some m) (omega arith)
+
+limit-told : (r : ReckoningFields) (s : StateFields) (left : ℕ) → AreReckoned r → limit_of r.prices r.g r.units s left
+    ≡ option_map (λ n. min (cap_of r.g) n) (promise_of r s (table_best r (worth_of r.prices s left) (seen_of r.g r.units s)))
 unfolding limit_of
-place-limit b s left place at =
-    ap (λ (n : ℕ). capped b.by.g s (in_points b.by.units (best b.by.prices b.by.g b.by.units n place.seen))) at.budget
-    ∙ ap (λ (x : SeenFields). capped b.by.g s (in_points b.by.units (best b.by.prices b.by.g b.by.units (worth_of b.by.prices s left) x))) at.seen
-    ∙ sym (told-limit b s left at.told)
+limit-told r s left are =
+    let most = best r.prices r.g r.units (worth_of r.prices s left) (seen_of r.g r.units s) in
+    sym (capped-cut r.g r.units s MOST_WORTH most are.cap) ∙ capped-promise r s (cut MOST_WORTH most) (cap_small r.g are.settings)
+
+pub limit-promise : (b : BoundFields) (s : StateFields) (left : ℕ) → AreReckoned b.by → limit_in b s left ≡ option_map (λ n. min (cap_of b.by.g) n) (promise_in b s left)
+limit-promise b s left are =
+    elim (is_told b s left) as (λ t. is_told b s left ≡ t → limit_in b s left ≡ option_map (λ n. min (cap_of b.by.g) n) (promise_in b s left)) [
+      | true ↦ λ told. told-limit b s left told ∙ limit-told b.by s left are ∙ ap (λ (o : Option ℕ). option_map (λ n. min (cap_of b.by.g) n) o) (sym (promise-told b s left told))
+      | false ↦ λ untold. untold-limit b s left untold ∙ ap (λ (n : ℕ). Some n) (omega arith) ∙ ap (λ (o : Option ℕ). option_map (λ n. min (cap_of b.by.g) n) o) (sym (promise-untold b s left untold))
+    ] refl
+
+option_min-low : (cap : ℕ) (o : Option ℕ) → option_le (option_map (λ n. min cap n) o) o
+option_min-low cap None = tt
+option_min-low cap (Some n) = omega arith
+
+pub limit-below : (b : BoundFields) (s : StateFields) (left : ℕ) → AreReckoned b.by → option_le (limit_in b s left) (promise_in b s left)
+limit-below b s left are =
+    subst (λ (o : Option ℕ). option_le o (promise_in b s left)) (sym (limit-promise b s left are)) (option_min-low (cap_of b.by.g) (promise_in b s left))

@@ -1,5 +1,6 @@
 -- What a table tells of a state, and the tests that it serves.
-use Rattle.std.specs.Prelude.{ℕ, Bool, true, List, [], ◌∷◌, Option, Some, ◌≡◌, ◌&&◌, ◌||◌, not, nat_le, nat_lt, if◌then◌else◌}
+use Rattle.std.specs.Prelude.{ℕ, Bool, true, List, [], ◌∷◌, Option, Some, ◌≡◌, ◌+◌, ◌*◌, ◌&&◌, ◌||◌, not, nat_le, nat_lt, min, if◌then◌else◌}
+use Rattle.std.specs.Option.{option_map}
 use Rattle.craft_settings.specs.Ranges.{SettingsFields}
 use Rattle.craft_settings.specs.Rules.{cap_of}
 use Rattle.craft_state.specs.Craft.{StateFields}
@@ -11,7 +12,8 @@ use Rattle.priced_moves.specs.Prices.{worth_of}
 use Rattle.priced_moves.specs.Optimum.{limit_of, is_enough}
 use Rattle.priced_graph.specs.Sights.{SightsFields, sights_of}
 use Rattle.priced_bound.specs.Reckoned.{ReckoningFields, AreReckoned}
-use Rattle.priced_bound.specs.declared.reckoning.TheConstants.{MOST_LEFT}
+use Rattle.priced_bound.specs.declared.reckoning.TheConstants.{MOST_LEFT, MOST_PROMISE}
+use Rattle.priced_bound.specs.Tables.{table_best}
 
 -- a table: by what it is reckoned, and its greatest budget
 pub record BoundFields : Type 0 where
@@ -38,6 +40,17 @@ is_told b s left =
 -- doesn't tell
 unfoldable pub limit_in : BoundFields → StateFields → ℕ → Option ℕ
 limit_in b s left = if is_told b s left then limit_of b.by.prices b.by.g b.by.units s left else Some (cap_of b.by.g)
+
+-- the state's quality after so many units of gain, cut
+abbrev pub promise_of : ReckoningFields → StateFields → Option ℕ → Option ℕ
+promise_of r s gain = option_map (λ n. min MOST_PROMISE (s.quality + r.units.quality * n)) gain
+
+-- the same with the quality that doesn't count too: that of the state after all that the table says can still be gained
+unfoldable pub promise_in : BoundFields → StateFields → ℕ → Option ℕ
+promise_in b s left =
+    if is_told b s left
+    then promise_of b.by s (table_best b.by (worth_of b.by.prices s left) (seen_of b.by.g b.by.units s))
+    else Some (cap_of b.by.g)
 
 -- with so many steps left, the state may still lead to the target: before the first step always, and later where a
 -- step is left and its limit isn't below the target

@@ -1,19 +1,18 @@
 ghost use Rattle.std.specs.Prelude.{◌≡◌, ◌≤◌, false, MatchOption, IfOk};
 ghost use Rattle.craft_settings.specs.Rules.{cap_of};
 ghost use Rattle.step_rules.specs.Legality.{IsWithin};
-ghost use Rattle.relaxed_moves.specs.Optimum.{option_max, capped};
+ghost use Rattle.relaxed_moves.specs.Optimum.{option_max};
 ghost use Rattle.priced_moves.specs.Edges.{greatest_edge};
 ghost use Rattle.priced_moves.specs.FirstMoves.{without_combo};
-ghost use Rattle.priced_moves.specs.Optimum.{in_points, best};
 ghost use Rattle.priced_graph.specs.Graphs.{LeadsOn, LeadOn};
 ghost use Rattle.priced_graph.specs.Sights.{IsSeenIn, sights_of};
-ghost use Rattle.priced_bound.specs.Bounds.{is_told, limit_in, passes};
+ghost use Rattle.priced_bound.specs.Bounds.{is_told, limit_in, passes, promise_in, promise_of};
 ghost use Rattle.priced_bound.specs.Places.{IsPlace};
 ghost use Rattle.priced_bound.specs.Reckoned.{need_of};
 ghost use Rattle.priced_bound.specs.Tables.{table_best, table_lead};
 
 use crate::choices::MOST_WORTH;
-use crate::filling::{combo_lists, cut, greater, has, is_enough, is_first, walks};
+use crate::filling::{combo_lists, cut, greater, has, is_enough, is_first, raised, walks};
 use crate::reckoning::{MOST_LEFT, Reckoning};
 use action_table::WantMemory;
 use craft_state::{Combo, State};
@@ -91,8 +90,21 @@ impl PricedBound {
         requires { IsWithin self.now.by.g s.now }
         ensures { result ≡ limit_in self.now s.now left }
     {
+        let r = &self.reckoning;
+        match self.promise(s, left) {
+            Some(most) => Some(cut(r, most)),
+            None => None,
+        }
+    }
+
+    /// The same with the quality that doesn't count too, at most `MOST_PROMISE`: it tells apart states whose limit is all
+    /// quality that counts.
+    pub fn promise(&self, s: &State, left: u32) -> Option<u32>
+        requires { IsWithin self.now.by.g s.now }
+        ensures { result ≡ promise_in self.now s.now left }
+    {
         match self.place(s, left) {
-            Some(place) => self.counted(s, place.budget, &place.seen),
+            Some(place) => self.promised(s, place.budget, &place.seen),
             None => Some(self.cap()),
         }
     }
@@ -133,17 +145,16 @@ impl PricedBound {
         r.settings.cap()
     }
 
-    // The quality that counts of a state after the greatest gain within a budget.
-    fn counted(&self, s: &State, budget: u32, x: &Seen) -> Option<u32>
+    // The quality of a state after the greatest gain within a budget, cut.
+    fn promised(&self, s: &State, budget: u32, x: &Seen) -> Option<u32>
         requires budget { budget ≤ self.now.top }
         requires within { IsSeenIn (sights_of self.now.by.g) x.now }
         requires need { x.now.need ≤ need_of self.now.by }
-        ensures { result ≡ capped self.now.by.g s.now (in_points self.now.by.units
-            (best self.now.by.prices self.now.by.g self.now.by.units budget x.now)) }
+        ensures { result ≡ promise_of self.now.by s.now (table_best self.now.by budget x.now) }
     {
         let r = &self.reckoning;
         match self.gain(budget, x) {
-            Some(gain) => Some(cut(r, s, gain)),
+            Some(gain) => Some(raised(r, s, gain)),
             None => None,
         }
     }

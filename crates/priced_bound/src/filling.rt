@@ -8,7 +8,7 @@ ghost use Rattle.priced_bound.specs.Bounds.{is_seen_in};
 ghost use Rattle.priced_bound.specs.Tables.{AreComboLists, IsTableOf};
 
 use crate::choices::MOST_WORTH;
-use crate::reckoning::Reckoning;
+use crate::reckoning::{MOST_PROMISE, Reckoning};
 use action_table::WantMemory;
 use craft_state::{Combo, State};
 use priced_graph::{Sights, graph_of};
@@ -70,12 +70,19 @@ pub(crate) fn greater(a: Option<u32>, b: Option<u32>) -> Option<u32>
     }
 }
 
-// The quality that counts of a state after a gain.
-pub(crate) fn cut(r: &Reckoning, s: &State, gain: u32) -> u32
-    ensures { result ≡ min (cap_of r.now.g) (s.now.quality + r.now.units.quality * gain) }
+// The quality of a state after a gain, cut.
+pub(crate) fn raised(r: &Reckoning, s: &State, gain: u32) -> u32
+    ensures { result ≡ min MOST_PROMISE (s.now.quality + r.now.units.quality * gain) }
 {
     let points = r.units.quality as u64 * gain as u64;
-    (r.settings.cap() as u64).min(s.quality as u64 + points) as u32
+    (MOST_PROMISE as u64).min(s.quality as u64 + points) as u32
+}
+
+// The part of a quality that counts.
+pub(crate) fn cut(r: &Reckoning, quality: u32) -> u32
+    ensures { result ≡ min (cap_of r.now.g) quality }
+{
+    r.settings.cap().min(quality)
 }
 
 // Whether the effects that are seen are among those of the craft.

@@ -13,7 +13,7 @@ mod several;
 
 pub use bound::PricedBound;
 pub use choices::Pricing;
-pub use reckoning::{MOST_LEFT, MOST_NEED, Reckoning};
+pub use reckoning::{MOST_LEFT, MOST_NEED, MOST_PROMISE, Reckoning};
 pub use several::all_reach;
 
 #[cfg(test)]

@@ -13,6 +13,9 @@ pub const MOST_NEED: u32 = 349;
 /// The most steps left of which a table tells.
 pub const MOST_LEFT: u32 = 300;
 
+/// The most quality that a table promises, far more than any craft counts.
+pub const MOST_PROMISE: u32 = 1_000_000_000;
+
 /// By what prices and in what units a craft is reckoned.
 #[derive(Clone, Copy, PartialEq, Eq, Debug)]
 pub struct Reckoning {

@@ -1,6 +1,2 @@
-pub mod Completions
-pub mod Steps
-pub mod Joining
-pub mod Exploring
-pub mod Fronts
+pub mod Qualities
 pub mod Seats

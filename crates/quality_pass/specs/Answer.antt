@@ -27,12 +27,16 @@ AreLimited g grain = (m : List Action) (whole : Completes g (start_of g) m) (k :
 
 -- each seat has seen what the seat at its place had seen
 abbrev pub AllStillSee : List (SeatFields QualityTruth) → List (SeatFields QualityTruth) → Type 0
-AllStillSee before after = (k : ℕ) (d : SeatFields QualityTruth) → k < length before → StillSees (slice_index_or before k d).view (slice_index_or after k d).view
+AllStillSee before after =
+    (k : ℕ) (d : SeatFields QualityTruth) → k < length before
+    → StillSees (slice_index_or before k d).view (slice_index_or after k d).view
 
 -- the effects numbers are cut among the seats, and each seat has seen the places of this budget that have one of its own
 abbrev pub AllSeeBudget : ℕ → ℕ → List (SeatFields QualityTruth) → Type 0
-AllSeeBudget grain budget seats = (k : ℕ) (d : SeatFields QualityTruth) → k < length seats
-    → SeesEffects grain budget (cut BUCKET_STATES (length seats) k) (cut BUCKET_STATES (length seats) (k + 1)) (slice_index_or seats k d).view
+AllSeeBudget grain budget seats =
+    let count = length seats in
+    (k : ℕ) (d : SeatFields QualityTruth) → k < count
+    → SeesEffects grain budget (cut BUCKET_STATES count k) (cut BUCKET_STATES count (k + 1)) (slice_index_or seats k d).view
 
 -- the same of each budget up to one
 abbrev pub AllSeeBudgets : ℕ → ℕ → List (SeatFields QualityTruth) → Type 0

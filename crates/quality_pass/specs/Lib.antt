@@ -1,4 +1,1 @@
 pub mod Answer
-pub mod Batch
-pub mod Frontier
-pub mod Passes

@@ -171,10 +171,11 @@ fn the_workers_run_side_by_side(rt: HostRuntime) -> Result<(), Fail> {
 }
 
 // A gate that shows who fills which part of the table. At its first pass the filler waits until a watcher has found
-// an index of its part empty, and the other worker waits until the watcher has found it filled.
+// the index, which is one of its part, empty, and the other worker waits until the watcher has found it filled.
 #[derive(Drop)]
 struct Filling {
     filler: u32,
+    index: usize,
     passed: Flags,
     empty: AtomicU64,
     full: AtomicU64,
@@ -202,33 +203,32 @@ impl Gate for Filling {
     }
 }
 
-// Looks at an index once both workers have called, and then until it is filled.
-fn watch(gate: &Filling, table: &Shared<QualityTruth>, mut seat: Seat<QualityTruth>, index: usize)
+// Looks at the index once both workers have called, and then until it is filled.
+fn watch(gate: &Filling, table: &Shared<QualityTruth>, mut seat: Seat<QualityTruth>)
     requires of { IsOf table.now seat }
-    requires inside { index < quality_size_of table.now.truth.g table.now.truth.grain }
+    requires inside { gate.now.index < quality_size_of table.now.truth.g table.now.truth.grain }
 {
     gate.wait(gate.passed.of(0));
     gate.wait(gate.passed.of(1));
-    if table.load(&mut seat, index).is_some() {
+    if table.load(&mut seat, gate.index).is_some() {
         gate.late.store(1, Ordering::SeqCst);
     }
     gate.empty.store(1, Ordering::SeqCst);
     for _turn in 0..TURNS {
-        if table.load(&mut seat, index) == Some(Entry::Best(0)) {
+        if table.load(&mut seat, gate.index) == Some(Entry::Best(0)) {
             gate.full.store(1, Ordering::SeqCst);
             return;
         }
     }
 }
 
-// What two workers answer while a third seat watches an index of the filler's part.
+// What two workers answer while a third seat watches the index.
 fn watched<R: Threads + Wait + Sync>(
     rt: &R,
     alloc: Global,
     gate: &Filling,
-    index: usize,
 ) -> Result<Option<u32>, WantMemory>
-    requires index { index < 1100 }
+    requires index { gate.now.index < 1100 }
 {
     let (table, first) = Shared::new(
         alloc,
@@ -237,7 +237,7 @@ fn watched<R: Threads + Wait + Sync>(
             grain: GRAIN,
         },
     )?;
-    watched_at(rt, alloc, gate, &table, first, index)
+    watched_at(rt, alloc, gate, &table, first)
 }
 
 fn watched_at<R: Threads + Wait + Sync>(
@@ -246,10 +246,9 @@ fn watched_at<R: Threads + Wait + Sync>(
     gate: &Filling,
     table: &Shared<QualityTruth>,
     mut first: Seat<QualityTruth>,
-    index: usize,
 ) -> Result<Option<u32>, WantMemory>
     requires of { IsOf table.now first }
-    requires inside { index < quality_size_of table.now.truth.g table.now.truth.grain }
+    requires inside { gate.now.index < quality_size_of table.now.truth.g table.now.truth.grain }
 {
     let watcher = table.split(&mut first);
     let seats = split_off(alloc, table, first, 2)?;
@@ -257,12 +256,13 @@ fn watched_at<R: Threads + Wait + Sync>(
         thread::scope_env(),
         rt,
         move |scope| -> Result<Option<u32>, WantMemory>
-            requires { IsOf table.now watcher × All (IsOf table.now) seats.items × (length seats.items ≡ 2) × (index < quality_size_of table.now.truth.g table.now.truth.grain) }
+            requires { IsOf table.now watcher × All (IsOf table.now) seats.items × (length seats.items ≡ 2)
+                × (gate.now.index < quality_size_of table.now.truth.g table.now.truth.grain) }
         {
             let watching = scope.spawn(
                 move ||
-                    requires { IsOf table.now watcher × (index < quality_size_of table.now.truth.g table.now.truth.grain) }
-                { watch(gate, table, watcher, index) },
+                    requires { IsOf table.now watcher × (gate.now.index < quality_size_of table.now.truth.g table.now.truth.grain) }
+                { watch(gate, table, watcher) },
             );
             if let Err(refused) = watching {
                 (refused.value)();
@@ -293,12 +293,13 @@ fn each_worker_fills_its_part(rt: HostRuntime) -> Result<(), Fail> {
     for (filler, index) in [(1, 1000), (0, 0)] {
         let gate = Filling {
             filler,
+            index,
             passed: Flags::new(),
             empty: AtomicU64::new(0),
             full: AtomicU64::new(0),
             late: AtomicU64::new(0),
         };
-        assert_eq!(rt; watched(&rt, rt.alloc(), &gate, index)?, Some(400));
+        assert_eq!(rt; watched(&rt, rt.alloc(), &gate)?, Some(400));
         assert_eq!(rt; gate.full.load(Ordering::SeqCst), 1);
         assert_eq!(rt; gate.late.load(Ordering::SeqCst), 0);
     }

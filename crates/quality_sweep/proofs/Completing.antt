@@ -16,6 +16,7 @@ use Rattle.dominance.proofs.Children.{is_legal-not_less, IsNotLess-step}
 use Rattle.dominance.proofs.Finishing.{finishes-not_less}
 use Rattle.quality_sweep.specs.Ahead.{IsAtMost, NoBetter, is_above}
 use Rattle.quality_sweep.specs.Sweeping.{Rises, IsSettled, IsExpanded, IsLeft, IsLeftTo}
+use Rattle.prefix_fronts.proofs.Dominance.{IsNotLess-trans}
 
 -- a run that goes on begins with a legal action
 pub run_parts : (g : SettingsFields) (s last : StateFields) (x : Action) (m : List Action) →
@@ -102,22 +103,13 @@ pub no_better-cut : (g : SettingsFields) (s : StateFields) (limit : ℕ) (best :
 no_better-cut g s limit None h cut = absurd (clash refl cut)
 no_better-cut g s limit (Some b) h cut = no_better-rises g s (Some limit) (Some b) h (grind (arith, nat_tests))
 
-pub not_less-trans : (a b c : StateFields) → IsNotLess a b → IsNotLess b c → IsNotLess a c
-not_less-trans a b c h k = record {
-  progress = h.progress ∙ k.progress;
-  effects = h.effects ∙ k.effects;
-  cp = omega (arith, h.cp, k.cp);
-  durability = omega (arith, h.durability, k.durability);
-  quality = omega (arith, h.quality, k.quality);
-}
-
 -- what is settled stays settled where each of the states that settle it is
 pub settled-moved : (g : SettingsFields) (P Q : StateFields → Type 0) (best best' : Option ℕ) (c : StateFields) →
     ((s : StateFields) → P s → IsSettled g Q best' s) → Rises best best' → IsSettled g P best c → IsSettled g Q best' c
 settled-moved g P Q best best' c moved rises (inl none) = inl (no_better-rises g c best best' none rises)
 settled-moved g P Q best best' c moved rises (inr covered) = elim (moved covered.cover covered.is_there) [
   | inl none ↦ inl (no_better-covered g covered.cover c best' covered.not_less none)
-  | inr k ↦ inr (record { cover = k.cover; is_there = k.is_there; not_less = not_less-trans k.cover covered.cover c k.not_less covered.not_less })
+  | inr k ↦ inr (record { cover = k.cover; is_there = k.is_there; not_less = IsNotLess-trans k.cover covered.cover c k.not_less covered.not_less })
 ]
 
 -- and so does what is left to them

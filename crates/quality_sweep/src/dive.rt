@@ -15,10 +15,13 @@ use pareto_front::Kept;
 use std::alloc::Global;
 
 // How many states are kept of a level, dive after dive. A narrow dive costs next to nothing and often reaches the cap.
-const WIDTHS: [usize; 4] = [30, 300, 3000, 30000];
+const WIDTHS: [usize; 3] = [30, 300, 3000];
+
+// How many are kept where the last of these dives still found more than the one before it.
+const WIDEST: usize = 30000;
 
 /// A quality with which some list completes the craft, if one is found. Dives of more and more width go on until one
-/// reaches the cap.
+/// reaches the cap; the widest is for crafts where width still helps.
 pub(crate) fn dive<C: Ceiling>(
     alloc: Global,
     outlook: &Outlook<'_, C>,
@@ -27,11 +30,17 @@ pub(crate) fn dive<C: Ceiling>(
         outlook.now.from.now }
     ensures { IfOk result (λ best. IfSome best (IsReachedFrom outlook.now.g.now outlook.now.from.now)) }
 {
+    let mut before = None;
     let mut best = None;
     for width in WIDTHS {
+        before = best;
         best = dive_once(alloc, outlook, width, best)?;
     }
-    Ok(best)
+    if best == before {
+        Ok(best)
+    } else {
+        dive_once(alloc, outlook, WIDEST, best)
+    }
 }
 
 // One dive, level by level, with so many states of each level at most.

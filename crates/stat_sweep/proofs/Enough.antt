@@ -1,5 +1,5 @@
 -- Base qualities that are enough, and those with which nothing completes.
-use Rattle.std.proofs.Common.{◌≡◌, ◌∙◌, sym, ◌≤◌, ℕ, Bool, true, false, arith, refl, ap, List, Some, None, ◌==◌, ◌↔◌, min, not, IsTrue, Result, Ok, Err, IfOk}
+use Rattle.std.proofs.Common.{◌≡◌, ◌∙◌, sym, ◌≤◌, ℕ, Bool, true, false, arith, refl, ap, List, Some, None, ◌==◌, ◌↔◌, min, IsTrue, Result, Ok, Err, IfOk}
 use Rattle.std.proofs.lemmas.Bool.Decides.{nat_tests}
 use Rattle.action_table.specs.declared.action.Action.{Action}
 use Rattle.craft_settings.specs.Ranges.{SettingsFields}
@@ -49,10 +49,6 @@ best-something g base m best nothing = cc (best.completes, nothing-base g g.base
 pub enough-something : (g : SettingsFields) (base : ℕ) → IsEnough g base → NothingCompletes g → ⊥
 enough-something g base enough nothing =
     cc (score_of-complete (with_base g base) enough.actions enough.last enough.ran enough.complete, nothing-base g g.base_quality base nothing enough.actions)
-
-pub not-is : (b : Bool) → not b ≡ true → b ≡ false
-not-is true h = absurd (cc)
-not-is false h = refl
 
 same_number : (m n : ℕ) → (m == n) ≡ true → m ≡ n
 same_number m n h = grind (arith, nat_tests)

@@ -1,5 +1,5 @@
--- How the range of base qualities is halved.
-use Rattle.std.proofs.Common.{◌≡◌, ◌≤◌, ◌<◌, ◌+◌, ◌-◌, ◌/◌, ◌^◌, ℕ, zero, suc, true, false, arith, subst, List, Option, Some, None}
+-- How the range of base qualities is narrowed.
+use Rattle.std.proofs.Common.{◌≡◌, ◌≤◌, ◌<◌, ◌+◌, ◌-◌, ◌*◌, ◌/◌, ◌^◌, ℕ, zero, suc, true, false, arith, ap, subst, List, Option, Some, None}
 use Rattle.std.proofs.Math.Nat.{pow-suc}
 use Rattle.action_table.specs.declared.action.Action.{Action}
 use Rattle.craft_settings.specs.Ranges.{SettingsFields}
@@ -26,9 +26,9 @@ pub record IsRange (g : SettingsFields) (r : Range) : Type 0 where
   pub enough : IsEnough g r.high
   pub below : IsNotEnough g r.low r.below
 
-pub upper_half : (g : SettingsFields) (r : Range) (middle : ℕ) (tried : Tried) → IsRange g r → r.low < middle → middle < r.high →
+pub upper_part : (g : SettingsFields) (r : Range) (middle : ℕ) (tried : Tried) → IsRange g r → r.low < middle → middle < r.high →
     IsTried g middle tried → tried.is_enough ≡ false → IsRange g (record r { low = middle; below = Some tried.plan })
-upper_half g r middle tried range low high is short = record {
+upper_part g r middle tried range low high is short = record {
   order = high;
   most = range.most;
   best = range.best;
@@ -36,9 +36,9 @@ upper_half g r middle tried range low high is short = record {
   below = (omega arith, is.best, λ enough. cc (is.enough.1 enough, short));
 }
 
-pub lower_half : (g : SettingsFields) (r : Range) (middle : ℕ) (tried : Tried) → IsRange g r → r.low < middle → middle < r.high →
+pub lower_part : (g : SettingsFields) (r : Range) (middle : ℕ) (tried : Tried) → IsRange g r → r.low < middle → middle < r.high →
     IsTried g middle tried → tried.is_enough ≡ true → IsRange g (record r { high = middle; at = tried.plan })
-lower_half g r middle tried range low high is full = record {
+lower_part g r middle tried range low high is full = record {
   order = low;
   most = omega (arith, range.most, high);
   best = is.best;
@@ -82,9 +82,6 @@ some-left : (k size : ℕ) → size ≤ 2 ^ k → 1 < size → 1 ≤ k
 some-left zero size h more = absurd (omega (arith, h, more))
 some-left (suc k) size h more = omega arith
 
-halved : (k size half : ℕ) → size ≤ 2 ^ suc k → half ≤ size - size / 2 → half ≤ 2 ^ k
-halved k size half h less = omega (arith, rw pow-suc at h, less)
-
 pub suffices-start : (calls : ℕ) → calls ≡ 1 → SufficesAfter calls MOST_BASE
 suffices-start calls is = rw is (record { low = omega arith; high = omega arith; halvings = omega arith })
 
@@ -93,12 +90,36 @@ suffices-more calls size h more =
     let left = some-left (MOST_CALLS - calls) size h.halvings more in
     omega (arith, left)
 
-pub suffices-next : (calls next size half : ℕ) → SufficesAfter calls size → 1 < size → next ≡ calls + 1 → half ≤ size - size / 2 → SufficesAfter next half
-suffices-next calls next size half h more is less =
+half-power : (k room : ℕ) → room ≡ 2 ^ suc k / 2 → room ≡ 2 ^ k
+half-power k room is = omega (arith, rw pow-suc at is)
+
+double : (k size room : ℕ) → size ≤ 2 ^ suc k → room ≡ 2 ^ k → size ≤ 2 * room
+double k size room h is = omega (arith, rw pow-suc at h, is)
+
+-- the room after so many calls: half of what the calls that are left can halve
+abbrev pub IsRoomAfter : ℕ → ℕ → Type 0
+IsRoomAfter calls room = room ≡ 2 ^ (MOST_CALLS - calls) / 2
+
+room-power : (calls next size room : ℕ) → SufficesAfter calls size → 1 < size → next ≡ calls + 1 → IsRoomAfter calls room → room ≡ 2 ^ (MOST_CALLS - next)
+room-power calls next size room h more is at =
     let under = suffices-more calls size h more in
     let left : MOST_CALLS - calls ≡ suc (MOST_CALLS - next) = omega (arith, under, is) in
+    half-power (MOST_CALLS - next) room (subst (λ (k : ℕ). room ≡ 2 ^ k / 2) left at)
+
+pub room-wide : (calls size room : ℕ) → SufficesAfter calls size → 1 < size → IsRoomAfter calls room → size ≤ 2 * room
+room-wide calls size room h more at =
+    let under = suffices-more calls size h more in
+    let left : MOST_CALLS - calls ≡ suc (MOST_CALLS - suc calls) = omega (arith, under) in
+    double (MOST_CALLS - suc calls) size room (subst (λ (k : ℕ). size ≤ 2 ^ k) left h.halvings) (room-power calls (suc calls) size room h more (omega arith) at)
+
+pub room-next : (calls next size room : ℕ) → SufficesAfter calls size → 1 < size → next ≡ calls + 1 → IsRoomAfter calls room → IsRoomAfter next (room / 2)
+room-next calls next size room h more is at = ap (λ (n : ℕ). n / 2) (room-power calls next size room h more is at)
+
+pub suffices-next : (calls next size part room : ℕ) → SufficesAfter calls size → 1 < size → next ≡ calls + 1 → IsRoomAfter calls room → part ≤ room → SufficesAfter next part
+suffices-next calls next size part room h more is at less =
+    let under = suffices-more calls size h more in
     record {
       low = omega (arith, is);
       high = omega (arith, is, under);
-      halvings = halved (MOST_CALLS - next) size half (subst (λ (k : ℕ). size ≤ 2 ^ k) left h.halvings) less;
+      halvings = subst (λ (n : ℕ). part ≤ n) (room-power calls next size room h more is at) less;
     }

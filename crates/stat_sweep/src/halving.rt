@@ -1,5 +1,5 @@
 // The search for the least base quality that is enough.
-ghost use Rattle.std.specs.Prelude.{◌≡◌, ◌≤◌, ◌<◌, ◌+◌, IfOk, MatchOption};
+ghost use Rattle.std.specs.Prelude.{◌≡◌, ◌≤◌, ◌<◌, ◌+◌, ◌*◌, IfOk, MatchOption};
 ghost use Rattle.macro_order.specs.Order.{IsBest, NothingCompletes, score_of};
 ghost use Rattle.stat_sweep.specs.Bases.{with_base, IsEnough};
 ghost use Rattle.stat_sweep.specs.Sweeping.{IsSwept};
@@ -70,7 +70,10 @@ fn is_full(g: &Settings, actions: &[Action]) -> bool
     }
 }
 
-// Halves the range of base qualities until the least one that is enough is left. The macro is the best at the
+// How long a range may be after the second call, so that the calls that are then left suffice to halve it down to 1.
+const FIRST_ROOM: u32 = 4096;
+
+// Narrows the range of base qualities until the least one that is enough is left. The macro is the best at the
 // greatest base quality, which is enough.
 pub(crate) fn halve<V: Solver>(
     alloc: Global,
@@ -91,16 +94,18 @@ pub(crate) fn halve<V: Solver>(
         high: MOST_BASE,
         at: most,
     };
+    let mut room = FIRST_ROOM;
     while range.high - range.low > 1 {
-        let middle = range.low + (range.high - range.low) / 2;
-        let Some(tried) = best_at(alloc, g, middle, solver)? else {
+        let base = next_base(g, &range, room);
+        room /= 2;
+        let Some(tried) = best_at(alloc, g, base, solver)? else {
             unreachable!()
         };
         if tried.is_enough {
-            range.high = middle;
+            range.high = base;
             range.at = tried.plan;
         } else {
-            range.low = middle;
+            range.low = base;
             range.below = Some(tried.plan);
         }
     }
@@ -109,4 +114,52 @@ pub(crate) fn halve<V: Solver>(
         at: range.at,
         below: range.below,
     })
+}
+
+// The base quality that is asked for next: the expected one, or the nearest to it that leaves no range longer than the
+// room.
+fn next_base(g: &Settings, range: &Range, room: u32) -> u32
+    requires wide { range.now.low + 1 < range.now.high }
+    requires most { range.now.high ≤ MOST_BASE }
+    requires room { range.now.high ≤ range.now.low + 2 * room }
+    requires few { room ≤ FIRST_ROOM }
+    ensures low { range.now.low < result }
+    ensures high { result < range.now.high }
+    ensures near { result ≤ range.now.low + room }
+    ensures far { range.now.high ≤ result + room }
+{
+    let least = (range.low + 1).max(range.high.saturating_sub(room));
+    let most = (range.high - 1).min(range.low + room);
+    expected(g, range).max(least).min(most)
+}
+
+// About which base quality is the least that is enough, if the macro that falls short gained quality in proportion to it.
+// The middle of the range where there is no such macro.
+fn expected(g: &Settings, range: &Range) -> u32
+    requires order { range.now.low < range.now.high }
+    requires most { range.now.high ≤ MOST_BASE }
+{
+    let middle = range.low + (range.high - range.low) / 2;
+    let Some(plan) = &range.below else {
+        return middle;
+    };
+    let crafter = Settings {
+        base_quality: range.low.max(1),
+        ..*g
+    };
+    match score(&crafter, &plan.actions) {
+        Some(score) => scaled(g, range.low, score.quality),
+        None => middle,
+    }
+}
+
+// A base quality that is as much greater as all quality that counts is than a quality, each without the initial one.
+fn scaled(g: &Settings, base: u32, quality: u32) -> u32
+    requires { base ≤ MOST_BASE }
+{
+    let wanted = g.cap().saturating_sub(g.initial) as u64;
+    let gained = quality.saturating_sub(g.initial).max(1) as u64;
+    (base as u64 * wanted)
+        .div_ceil(gained)
+        .min(MOST_BASE as u64) as u32
 }

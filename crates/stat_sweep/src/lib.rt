@@ -25,7 +25,8 @@ pub use swept::Swept;
 /// The greatest base quality that is tried.
 pub const MOST_BASE: u32 = 5000;
 
-/// How often a solver is asked in a sweep at most: once at the greatest base quality, and then for each halving.
+/// How often a solver is asked in a sweep at most: once at the greatest base quality, and then as often as the range below it
+/// can be halved.
 pub const MOST_CALLS: u32 = 14;
 
 /// The least base quality, from 1 to 5000, with which some macro completes the craft and has all the quality that

@@ -24,11 +24,11 @@ capped-greatest g target cap m s scored =
 
 pub best_macro-requires-clause-reached : goal.best_macro-requires-clause-reached
 best_macro-requires-clause-reached g c κs within =
-    let craft = c.args.g.now in
+    let craft = c.args.case.now.g.now in
     let same : c.in-Some.best.quality ≡ c.min-target.result = omega arith in
-    subst (λ (q : ℕ). IsReached craft q) same (reached-by craft c.args.actions.now c.in-Some.best (sym c.score.ensures ∙ c.in-Some.is))
+    subst (λ (q : ℕ). IsReached craft q) same (reached-by craft c.args.case.now.actions.now c.in-Some.best (sym c.score.ensures ∙ c.in-Some.is))
 
 pub best_macro-requires-clause-greatest : goal.best_macro-requires-clause-greatest
 best_macro-requires-clause-greatest g c κs within =
-    let cap : c.min-target.result ≡ cap_of c.args.g.now = c.min-target.ensures ∙ ap cap_of c.g.view_is in
-    capped-greatest c.args.g.now c.min-target.result cap
+    let cap : c.min-target.result ≡ cap_of c.args.case.now.g.now = c.min-target.ensures ∙ ap cap_of c.g.view_is in
+    capped-greatest c.args.case.now.g.now c.min-target.result cap

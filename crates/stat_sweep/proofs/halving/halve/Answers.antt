@@ -2,8 +2,15 @@ use Rattle.std.proofs.Common.{◌<◌, ◌+◌, ◌-◌, ◌/◌, arith}
 use Rattle.macro_order.specs.Order.{NothingCompletes}
 use Rattle.stat_sweep.specs.Halving.{IsTried}
 use Rattle.stat_sweep.proofs.Enough.{enough-something}
-use Rattle.stat_sweep.proofs.Halves.{lower_half, upper_half, range-swept, suffices-next}
+use Rattle.stat_sweep.proofs.Halves.{lower_part, upper_part, range-swept, room-next, room-wide, suffices-next}
 use Rattle.stat_sweep.proofs.halving.halve.Goals as goal
+
+pub next_base-base-requires-clause-room : goal.next_base-base-requires-clause-room
+next_base-base-requires-clause-room g c =
+    let r = c.loop-range.range in
+    let wide : 1 < r.high - r.low = c.loop-range-test.true in
+    let enough = room-wide _ (r.high - r.low) c.loop-range.room c.loop-range.invariant.calls wide c.loop-range.invariant.room in
+    omega (arith, enough)
 
 pub unreachable-requires : goal.unreachable-requires
 unreachable-requires g c =
@@ -14,12 +21,14 @@ pub loop-range-preserved-then-tried : goal.loop-range-preserved-then-tried
 loop-range-preserved-then-tried g c =
     let r = c.loop-range.range in
     let tried = c.in-Some.tried in
-    let middle = r.low + (r.high - r.low) / 2 in
+    let base = c.next_base-base.result in
     let wide : 1 < r.high - r.low = c.loop-range-test.true in
-    let is : IsTried c.args.g.now middle tried = rw c.in-Some.is at c.in_ok-tried.ensures.best in
+    let is : IsTried c.args.g.now base tried = rw c.in-Some.is at c.in_ok-tried.ensures.best in
     record {
-      range = lower_half c.args.g.now r middle tried c.loop-range.invariant.range (omega arith) (omega arith) is c.if-tried.true;
-      calls = suffices-next _ _ (r.high - r.low) (middle - r.low) c.loop-range.invariant.calls wide c.best_at.ensures.calls (omega arith);
+      range = lower_part c.args.g.now r base tried c.loop-range.invariant.range c.next_base-base.ensures.low c.next_base-base.ensures.high is c.if-tried.true;
+      calls = suffices-next _ _ (r.high - r.low) (base - r.low) c.loop-range.room c.loop-range.invariant.calls wide c.best_at.ensures.calls c.loop-range.invariant.room (omega (arith, c.next_base-base.ensures.near));
+      room = room-next _ _ (r.high - r.low) c.loop-range.room c.loop-range.invariant.calls wide c.best_at.ensures.calls c.loop-range.invariant.room;
+      few = omega (arith, c.loop-range.invariant.few);
       ready = c.best_at.ensures.ready;
     }
 
@@ -27,12 +36,14 @@ pub loop-range-preserved-else-tried : goal.loop-range-preserved-else-tried
 loop-range-preserved-else-tried g c =
     let r = c.loop-range.range in
     let tried = c.in-Some.tried in
-    let middle = r.low + (r.high - r.low) / 2 in
+    let base = c.next_base-base.result in
     let wide : 1 < r.high - r.low = c.loop-range-test.true in
-    let is : IsTried c.args.g.now middle tried = rw c.in-Some.is at c.in_ok-tried.ensures.best in
+    let is : IsTried c.args.g.now base tried = rw c.in-Some.is at c.in_ok-tried.ensures.best in
     record {
-      range = upper_half c.args.g.now r middle tried c.loop-range.invariant.range (omega arith) (omega arith) is c.if-tried.false;
-      calls = suffices-next _ _ (r.high - r.low) (r.high - middle) c.loop-range.invariant.calls wide c.best_at.ensures.calls (omega arith);
+      range = upper_part c.args.g.now r base tried c.loop-range.invariant.range c.next_base-base.ensures.low c.next_base-base.ensures.high is c.if-tried.false;
+      calls = suffices-next _ _ (r.high - r.low) (r.high - base) c.loop-range.room c.loop-range.invariant.calls wide c.best_at.ensures.calls c.loop-range.invariant.room (omega (arith, c.next_base-base.ensures.far));
+      room = room-next _ _ (r.high - r.low) c.loop-range.room c.loop-range.invariant.calls wide c.best_at.ensures.calls c.loop-range.invariant.room;
+      few = omega (arith, c.loop-range.invariant.few);
       ready = c.best_at.ensures.ready;
     }
 
@@ -40,12 +51,14 @@ pub loop-range-preserved : goal.loop-range-preserved
 loop-range-preserved g c =
     let r = c.loop-range.range in
     let tried = c.in-Some.tried in
-    let middle = r.low + (r.high - r.low) / 2 in
+    let base = c.next_base-base.result in
     let wide : 1 < r.high - r.low = c.loop-range-test.true in
-    let is : IsTried c.args.g.now middle tried = rw c.in-Some.is at c.in_ok-tried.ensures.best in
+    let is : IsTried c.args.g.now base tried = rw c.in-Some.is at c.in_ok-tried.ensures.best in
     record {
-      range = upper_half c.args.g.now r middle tried c.loop-range.invariant.range (omega arith) (omega arith) is c.if-tried.false;
-      calls = suffices-next _ _ (r.high - r.low) (r.high - middle) c.loop-range.invariant.calls wide c.best_at.ensures.calls (omega arith);
+      range = upper_part c.args.g.now r base tried c.loop-range.invariant.range c.next_base-base.ensures.low c.next_base-base.ensures.high is c.if-tried.false;
+      calls = suffices-next _ _ (r.high - r.low) (r.high - base) c.loop-range.room c.loop-range.invariant.calls wide c.best_at.ensures.calls c.loop-range.invariant.room (omega (arith, c.next_base-base.ensures.far));
+      room = room-next _ _ (r.high - r.low) c.loop-range.room c.loop-range.invariant.calls wide c.best_at.ensures.calls c.loop-range.invariant.room;
+      few = omega (arith, c.loop-range.invariant.few);
       ready = c.best_at.ensures.ready;
     }
 

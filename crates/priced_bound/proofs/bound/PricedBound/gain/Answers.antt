@@ -1,6 +1,5 @@
-use Rattle.std.proofs.Common.{◌≡◌, ◌∙◌, ap, sym}
+use Rattle.std.proofs.Common.{◌∙◌, ap, sym}
 use Rattle.craft_state.specs.declared.Combo.TheVariants.{Basic, Standard}
-use Rattle.priced_moves.specs.Edges.{combo_edges_of}
 use Rattle.priced_moves.specs.Moves.{SeenFields}
 use Rattle.priced_bound.proofs.Asked.{gain-told}
 use Rattle.priced_bound.proofs.Lists.{combo-listed, combo-leads}
