@@ -1,4 +1,5 @@
 ghost use Rattle.std.specs.Prelude.{◌≡◌, ◌≤◌, ◌++◌, None, codes, length, string_bytes, IfOk, OnOk};
+ghost use Rattle.macro_order.specs.Order.{seconds_of};
 ghost use Rattle.step_rules.specs.declared.legality.TheConstants.{MOST_STEPS};
 ghost use Rattle.replay_report.specs.Holes.{column_holes};
 ghost use Rattle.replay_report.specs.Lines.{columns_of, head_of, limit_column, numbers_line, table_row};
@@ -21,27 +22,44 @@ pub fn head(
     requires { length actions.now ≤ MOST_STEPS }
     ensures { IfOk result (λ text. text.items ≡ head_of g.now actions.now last.now) }
 {
-    let line = numbers(
-        alloc,
-        actions.len(),
-        seconds(actions),
-        g.progress,
-        last.quality,
-        g.quality,
-    )?;
+    let line = numbers(alloc, Sums::of(g, actions, last), g.progress)?;
     Ok(line.into_bytes())
 }
 
-fn numbers(
-    alloc: Global,
-    steps: usize,
-    seconds: u32,
-    progress: u32,
-    quality: u32,
-    most: u32,
-) -> Result<String, AllocError>
-    ensures { IfOk result (λ line. string_bytes line ≡ numbers_line steps seconds progress quality most) }
+// What a macro comes to, and the recipe's quality.
+pub(crate) struct Sums {
+    pub(crate) steps: usize,
+    pub(crate) seconds: u32,
+    pub(crate) quality: u32,
+    pub(crate) most: u32,
+}
+
+impl Sums {
+    pub(crate) fn of(g: &Settings, actions: &[Action], last: &State) -> Sums
+        requires { length actions.now ≤ MOST_STEPS }
+        ensures steps { result.steps ≡ length actions.now }
+        ensures seconds { result.seconds ≡ seconds_of actions.now }
+        ensures quality { result.quality ≡ last.now.quality }
+        ensures most { result.most ≡ g.now.quality }
+    {
+        Sums {
+            steps: actions.len(),
+            seconds: seconds(actions),
+            quality: last.quality,
+            most: g.quality,
+        }
+    }
+}
+
+fn numbers(alloc: Global, sums: Sums, progress: u32) -> Result<String, AllocError>
+    ensures { IfOk result (λ line. string_bytes line ≡ numbers_line sums.steps sums.seconds progress sums.quality sums.most) }
 {
+    let Sums {
+        steps,
+        seconds,
+        quality,
+        most,
+    } = sums;
     format!(in alloc;
         "steps {steps} seconds {seconds} progress {progress}/{progress} quality {quality}/{most}\n"
     )
@@ -87,28 +105,38 @@ fn push_state(
 ) -> Result<(), AllocError>
     ensures { OnOk result (string_bytes text.new ≡ string_bytes text.old ++ columns_of number action after.now) }
 {
-    push_columns(
-        text,
-        number,
-        action.display_name(),
-        after.progress,
-        after.quality,
-        after.durability,
-        after.cp,
-    )
+    let columns = Columns {
+        progress: after.progress,
+        quality: after.quality,
+        durability: after.durability,
+        cp: after.cp,
+    };
+    push_columns(text, number, action.display_name(), columns)
+}
+
+// What stands after the name of a step.
+struct Columns {
+    progress: u32,
+    quality: u32,
+    durability: u32,
+    cp: u32,
 }
 
 fn push_columns(
     text: &mut String,
     number: u32,
     name: &str,
-    progress: u32,
-    quality: u32,
-    durability: u32,
-    cp: u32,
+    columns: Columns,
 ) -> Result<(), AllocError>
-    ensures { OnOk result (string_bytes text.new ≡ string_bytes text.old ++ column_holes number name.now progress quality durability cp) }
+    ensures { OnOk result (string_bytes text.new ≡ string_bytes text.old
+        ++ column_holes number name.now columns.progress columns.quality columns.durability columns.cp) }
 {
+    let Columns {
+        progress,
+        quality,
+        durability,
+        cp,
+    } = columns;
     write!(
         text,
         "{number:>3} {name:<20}{progress:>7}{quality:>7}{durability:>4}{cp:>5}"

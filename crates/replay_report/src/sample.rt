@@ -5,9 +5,9 @@ ghost use Rattle.step_rules.specs.Macro.{Completes};
 ghost use Rattle.replay_report.specs.Sample.{sample_line, sample_none_of, sample_report_of, sums_line};
 
 use crate::counts::total;
+use crate::lines::Sums;
 use action_table::{Action, WantMemory};
 use craft_settings::Settings;
-use macro_order::seconds;
 use std::alloc::{AllocError, Global};
 use step_rules::{replay, start};
 
@@ -27,15 +27,8 @@ pub fn sample_report(
     let Ok(last) = replay(g, &start(g), actions) else {
         unreachable!()
     };
-    let sums = sums_text(
-        alloc,
-        actions.len(),
-        seconds(actions),
-        last.quality,
-        g.quality,
-        total(counts),
-    )?;
-    with_settings(alloc, number, g, sums.as_bytes())
+    let line = sums_text(alloc, Sums::of(g, actions, &last), total(counts))?;
+    with_settings(alloc, number, g, line.as_bytes())
 }
 
 /// The two lines of a sample craft that no legal macro completes: the sample's number and its settings, and `none`.
@@ -68,15 +61,14 @@ fn settings_text(alloc: Global, number: u32, g: &Settings) -> Result<String, All
     )
 }
 
-fn sums_text(
-    alloc: Global,
-    steps: usize,
-    seconds: u32,
-    quality: u32,
-    most: u32,
-    kept: u128,
-) -> Result<String, AllocError>
-    ensures { IfOk result (λ line. string_bytes line ≡ sums_line steps seconds quality most kept) }
+fn sums_text(alloc: Global, sums: Sums, kept: u128) -> Result<String, AllocError>
+    ensures { IfOk result (λ line. string_bytes line ≡ sums_line sums.steps sums.seconds sums.quality sums.most kept) }
 {
+    let Sums {
+        steps,
+        seconds,
+        quality,
+        most,
+    } = sums;
     format!(in alloc; "steps {steps} seconds {seconds} quality {quality}/{most} kept {kept}\n")
 }
