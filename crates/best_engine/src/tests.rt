@@ -1,9 +1,9 @@
 use crate::{Status, run};
 use craft_io::{MemorySink, MemorySource};
-use std::alloc::{AllocError, Global};
 use std::process::Abort;
 use std::test::Fail;
 use std::thread::Threads;
+use test_crafts::craft_file as craft;
 use worker_gate::FreeGate;
 
 const EASY: &str = "steps 1 seconds 3 progress 100/100 quality 0/100
@@ -57,14 +57,6 @@ replay
 
 // The numbers of a craft with base values of 100: level, CP, durability, progress and quality.
 const ONE_TOUCH: [u32; 5] = [5, 18, 20, 100, 500];
-
-// The file of such a craft.
-fn craft(alloc: Global, numbers: [u32; 5]) -> Result<String, AllocError> {
-    let [level, cp, durability, progress, quality] = numbers;
-    format!(in alloc;
-        "[crafter]\nlevel = {level}\ncp = {cp}\n[recipe]\ndurability = {durability}\nprogress = {progress}\nquality = {quality}\n[base]\nprogress = 100\nquality = 100\n"
-    )
-}
 
 // The numbers of the calls of the source and of `out` that fail, where 0 is none.
 #[derive(Clone, Copy)]

@@ -5,7 +5,7 @@ use Rattle.craft_settings.specs.Reading.{max_length}
 use Rattle.run_io.specs.Answering.{CountsWriteFault, Rows, WithSettings}
 use Rattle.run_io.specs.Statuses.{IsResult}
 use Rattle.run_io.specs.declared.status.Status.{Status}
-use Rattle.run_io.specs.declared.status.Status.TheVariants.{Solved, NoMacro, BadWords, BadSettings, ReadFault, WriteFault, WantMemory, NotReached, BadMacro, StoppedMacro, NotBest}
+use Rattle.run_io.specs.declared.status.Status.TheVariants.{Solved, NoMacro, BadWords, BadSettings, ReadFault, WriteFault, WantMemory, BadPrefix, NotReached, BadMacro, StoppedMacro, NotBest}
 
 pub no_write_fault : (s : Status) → IsResult s → s ≡ WriteFault → ⊥
 no_write_fault s result is = subst IsResult is result
@@ -18,6 +18,7 @@ kept_write BadSettings faults faults' other same = same
 kept_write ReadFault faults faults' other same = same
 kept_write WriteFault faults faults' other same = absurd (other refl)
 kept_write WantMemory faults faults' other same = same
+kept_write BadPrefix faults faults' other same = same
 kept_write NotReached faults faults' other same = same
 kept_write BadMacro faults faults' other same = same
 kept_write StoppedMacro faults faults' other same = same
@@ -32,6 +33,7 @@ short_row rows input BadSettings text result row = absurd result
 short_row rows input ReadFault text result row = absurd result
 short_row rows input WriteFault text result row = absurd result
 short_row rows input WantMemory text result row = absurd result
+short_row rows input BadPrefix text result row = absurd result
 short_row rows input NotReached text result row = row.1.accepted.short
 short_row rows input BadMacro text result row = absurd result
 short_row rows input StoppedMacro text result row = row.1.accepted.short

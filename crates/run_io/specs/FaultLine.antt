@@ -24,7 +24,8 @@ settings_line NotToml = codes "settings: not a TOML document\n"
 settings_line (UnknownKey path) = codes "settings: unknown key " ++ (path ++ codes "\n")
 settings_line (Missing path) = codes "settings: missing key " ++ (key_text path ++ codes "\n")
 settings_line (WrongKind path) = codes "settings: wrong kind of value at " ++ (key_text path ++ codes "\n")
-settings_line (OutOfRange path value) = codes "settings: " ++ (signed_decimal value ++ (codes " is out of range at " ++ (key_text path ++ codes "\n")))
+settings_line (OutOfRange path value) =
+    codes "settings: " ++ (signed_decimal value ++ (codes " is out of range at " ++ (key_text path ++ codes "\n")))
 settings_line TwoBases = codes "settings: base values and stats are both given\n"
 settings_line (UnknownAction name) = codes "settings: unknown action " ++ (name ++ codes "\n")
 settings_line WantMemory = memory_line

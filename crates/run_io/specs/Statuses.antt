@@ -2,7 +2,7 @@
 use Rattle.std.specs.Prelude.{ℕ, List, Option, None, Some, ⊤}
 use Rattle.run_io.specs.FaultLine.{words_line, read_line, write_line, memory_line}
 use Rattle.run_io.specs.declared.status.Status.{Status}
-use Rattle.run_io.specs.declared.status.Status.TheVariants.{Solved, NoMacro, BadWords, BadSettings, ReadFault, WriteFault, WantMemory, NotReached, BadMacro, StoppedMacro, NotBest}
+use Rattle.run_io.specs.declared.status.Status.TheVariants.{Solved, NoMacro, BadWords, BadSettings, ReadFault, WriteFault, WantMemory, BadPrefix, NotReached, BadMacro, StoppedMacro, NotBest}
 
 -- the exit status of the program
 abbrev pub code_of : Status → ℕ
@@ -13,6 +13,7 @@ code_of BadSettings = 3
 code_of ReadFault = 4
 code_of WriteFault = 5
 code_of WantMemory = 6
+code_of BadPrefix = 7
 code_of NotReached = 8
 code_of BadMacro = 9
 code_of StoppedMacro = 10
@@ -30,6 +31,7 @@ IsResult _ = ⊥
 -- a refusal of what came in: its line was told on `err`
 abbrev pub IsRefusal : Status → Type 0
 IsRefusal BadSettings = ⊤
+IsRefusal BadPrefix = ⊤
 IsRefusal BadMacro = ⊤
 IsRefusal _ = ⊥
 

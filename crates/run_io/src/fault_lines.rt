@@ -49,7 +49,8 @@ fn with_bytes(alloc: Global, words: &[u8], name: &[u8]) -> Result<Vec<u8>, Alloc
 }
 
 fn range_line(alloc: Global, path: &str, value: i64) -> Result<Vec<u8>, AllocError>
-    ensures { IfOk result (λ line. line.items ≡ codes "settings: " ++ (signed_decimal value ++ (codes " is out of range at " ++ (path.now ++ codes "\n")))) }
+    ensures { IfOk result (λ line.
+        line.items ≡ codes "settings: " ++ (signed_decimal value ++ (codes " is out of range at " ++ (path.now ++ codes "\n")))) }
 {
     let line = format!(in alloc; "settings: {value} is out of range at {path}\n")?;
     Ok(line.into_bytes())

@@ -9,11 +9,11 @@ use crate::fault_lines::settings_line;
 use crate::halt::Halt;
 use crate::status::Status;
 use craft_io::{Source, fill};
-use craft_settings::{Settings, read};
+use craft_settings::{MAX_LENGTH, Settings, read};
 use std::alloc::Global;
 
 /// One byte more than an input of settings may have, with macro text or without, so that a longer one is seen.
-pub const READ_MOST: usize = 65537;
+pub const READ_MOST: usize = MAX_LENGTH + 1;
 
 /// Reads until so many bytes have come or the source is at its end.
 pub fn read_up_to<S: Source>(alloc: Global, source: &mut S, most: usize) -> Result<Vec<u8>, Halt>

@@ -19,6 +19,8 @@ pub enum Status {
     WriteFault,
     /// Memory was asked for and refused, before the first byte was written.
     WantMemory,
+    /// The actions that are done aren't legal in turn, or the craft is over after them.
+    BadPrefix,
     /// No base quality that is tried is enough, and a text that says so was written.
     NotReached,
     /// The settings are followed by no macro text.
@@ -42,6 +44,7 @@ impl Status {
             Status::ReadFault => 4,
             Status::WriteFault => 5,
             Status::WantMemory => 6,
+            Status::BadPrefix => 7,
             Status::NotReached => 8,
             Status::BadMacro => 9,
             Status::StoppedMacro => 10,

@@ -11,7 +11,7 @@ use Rattle.run_io.specs.declared.answer.Answer.{Answer}
 use Rattle.run_io.specs.declared.halt.Halt.{Halt}
 use Rattle.run_io.specs.declared.halt.Halt.TheVariants.{Refused, BadWords as BadWordsHalt, ReadFault as ReadFaultHalt, WantMemory as WantMemoryHalt}
 use Rattle.run_io.specs.declared.status.Status.{Status}
-use Rattle.run_io.specs.declared.status.Status.TheVariants.{Solved, NoMacro, BadWords, BadSettings, ReadFault, WriteFault, WantMemory, NotReached, BadMacro, StoppedMacro, NotBest}
+use Rattle.run_io.specs.declared.status.Status.TheVariants.{Solved, NoMacro, BadWords, BadSettings, ReadFault, WriteFault, WantMemory, BadPrefix, NotReached, BadMacro, StoppedMacro, NotBest}
 use Rattle.solve_engine.specs.Input.{AreParts, Parts, WithRest}
 use Rattle.solve_engine.specs.Pasted.{IsHaltOfInput, IsHaltOfMacro, IsInput, IsPasted, Unanswered, WithMacro}
 
@@ -29,6 +29,7 @@ module _ (rows : SettingsFields → List Action → Rows) (input : List ℕ) whe
   short_macro ReadFault text result row = absurd result
   short_macro WriteFault text result row = absurd result
   short_macro WantMemory text result row = absurd result
+  short_macro BadPrefix text result row = absurd result
   short_macro NotReached text result row = short_parts input row.0.settings row.0.rest row.3.0 row.0.are row.3.1
   short_macro BadMacro text result row = absurd result
   short_macro StoppedMacro text result row = short_parts input row.0.settings row.0.rest row.3.0 row.0.are row.3.1
@@ -42,6 +43,7 @@ module _ (rows : SettingsFields → List Action → Rows) (input : List ℕ) whe
   answered_row g m is ReadFault text result row = absurd result
   answered_row g m is WriteFault text result row = absurd result
   answered_row g m is WantMemory text result row = absurd result
+  answered_row g m is BadPrefix text result row = absurd result
   answered_row g m is NotReached text result row = (is.parts, g, is.accepted, (m, is.pasted, row))
   answered_row g m is BadMacro text result row = absurd result
   answered_row g m is StoppedMacro text result row = (is.parts, g, is.accepted, (m, is.pasted, row))

@@ -1,4 +1,5 @@
 pub mod Ending
 pub mod Inputs
 pub mod Limited
+pub mod Resumed
 pub mod Sampled

@@ -8,10 +8,11 @@ use Rattle.run_io.specs.declared.answer.Answer.{Answer}
 use Rattle.run_io.specs.declared.halt.Halt.{Halt}
 use Rattle.run_io.specs.declared.reading.TheConstants.{READ_MOST}
 use Rattle.solve_words.specs.declared.words.Command.{Command}
-use Rattle.solve_words.specs.declared.words.Command.TheVariants.{Solve, Sample, Sweep, Replay, Check}
+use Rattle.solve_words.specs.declared.words.Command.TheVariants.{Solve, Sample, Resume, Sweep, Replay, Check}
 use Rattle.solve_words.specs.declared.words.Words.{Words}
 use Rattle.solve_engine.specs.Check.{CheckAnswers}
 use Rattle.solve_engine.specs.Replay.{ReplayAnswers}
+use Rattle.solve_engine.specs.Resume.{ResumeAnswers}
 use Rattle.solve_engine.specs.Sample.{SampleAnswers}
 use Rattle.solve_engine.specs.Solve.{SolveAnswers}
 use Rattle.solve_engine.specs.Sweep.{SweepAnswers}
@@ -21,6 +22,7 @@ use Rattle.solve_engine.specs.Words.{asked}
 abbrev pub most_of : Command → ℕ
 most_of Solve = READ_MOST
 most_of (Sample n) = 0
+most_of (Resume done) = READ_MOST
 most_of Sweep = READ_MOST
 most_of Replay = READ_MOST
 most_of Check = READ_MOST
@@ -29,6 +31,7 @@ most_of Check = READ_MOST
 abbrev pub AnswersOf : Command → Words → List ℕ → Rows
 AnswersOf Solve given input = SolveAnswers given input
 AnswersOf (Sample n) given input = SampleAnswers given n
+AnswersOf (Resume done) given input = ResumeAnswers done input
 AnswersOf Sweep given input = SweepAnswers input
 AnswersOf Replay given input = ReplayAnswers input
 AnswersOf Check given input = CheckAnswers given input

@@ -3,6 +3,7 @@ pub mod Commands
 pub mod Input
 pub mod Pasted
 pub mod Replay
+pub mod Resume
 pub mod Sample
 pub mod Search
 pub mod Solve

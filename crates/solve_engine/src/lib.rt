@@ -4,6 +4,7 @@
 mod check;
 mod pasted;
 mod replay;
+mod resume;
 mod sample;
 mod searches;
 mod solve;
@@ -15,9 +16,13 @@ pub use run_io::Status;
 pub use top::run;
 
 #[cfg(test)]
+mod device_tests;
+#[cfg(test)]
 mod file_tests;
 #[cfg(test)]
 mod macro_tests;
+#[cfg(test)]
+mod resume_tests;
 #[cfg(test)]
 mod sample_tests;
 #[cfg(test)]

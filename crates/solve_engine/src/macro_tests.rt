@@ -6,11 +6,11 @@ use std::process::Abort;
 use std::test::Fail;
 use std::thread::Threads;
 
-const TOUCH_LINE: &str = "/ac \"Basic Touch\" <wait.3>\n";
+pub(crate) const TOUCH_LINE: &str = "/ac \"Basic Touch\" <wait.3>\n";
 
-const SYNTHESIS_LINE: &str = "/action \"Basic Synthesis\"\n";
+pub(crate) const SYNTHESIS_LINE: &str = "/action \"Basic Synthesis\"\n";
 
-const PLAYED: &str = "replay
+pub(crate) const PLAYED: &str = "replay
   1 Basic Touch               0    100  10    0
   2 Basic Synthesis         100    100   0    0
 complete

@@ -1,9 +1,9 @@
 use crate::{Status, run};
 use craft_io::{MemorySink, MemorySource};
-use std::alloc::{AllocError, Global};
 use std::process::Abort;
 use std::test::Fail;
 use std::thread::Threads;
+pub(crate) use test_crafts::craft_file as craft;
 use test_parts::Meeting;
 use worker_gate::{FreeGate, Gate};
 
@@ -187,43 +187,35 @@ replay
 
 const FORBIDDEN: &str = "[actions]\nforbid = [\"muscle_memory\", \"careful_synthesis\"]\n";
 
-const READ_LINE: &str = "input: read failed\n";
+pub(crate) const READ_LINE: &str = "input: read failed\n";
 
-const WRITE_LINE: &str = "output: write failed\n";
+pub(crate) const WRITE_LINE: &str = "output: write failed\n";
 
 const NO_MACRO: (Status, &str, &str) = (Status::NoMacro, "none\n", "");
 
 // The numbers of a craft with base values of 100: level, CP, durability, progress and quality.
 pub(crate) const ONE_TOUCH: [u32; 5] = [5, 18, 20, 100, 500];
 
-// The file of such a craft.
-pub(crate) fn craft(alloc: Global, numbers: [u32; 5]) -> Result<String, AllocError> {
-    let [level, cp, durability, progress, quality] = numbers;
-    format!(in alloc;
-        "[crafter]\nlevel = {level}\ncp = {cp}\n[recipe]\ndurability = {durability}\nprogress = {progress}\nquality = {quality}\n[base]\nprogress = 100\nquality = 100\n"
-    )
-}
-
 // The numbers of the calls of the source, of `out` and of `err` that fail, where 0 is none, and
 // how many bytes `out` has room for.
 #[derive(Clone, Copy)]
-struct Devices {
-    read: u64,
-    write: u64,
-    tell: u64,
-    room: usize,
+pub(crate) struct Devices {
+    pub(crate) read: u64,
+    pub(crate) write: u64,
+    pub(crate) tell: u64,
+    pub(crate) room: usize,
 }
 
 const ROOM: usize = 1024;
 
-const SOUND: Devices = Devices {
+pub(crate) const SOUND: Devices = Devices {
     read: 0,
     write: 0,
     tell: 0,
     room: ROOM,
 };
 
-fn gives<R: AllocGlobal + Abort + Threads + Sync>(
+pub(crate) fn gives<R: AllocGlobal + Abort + Threads + Sync>(
     rt: &R,
     words: &[&str],
     file: &[u8],

@@ -1,5 +1,6 @@
 // The top call.
 ghost use Rattle.std.specs.Prelude.{◌≡◌, ◌≢◌, ◌↔◌, ◌⊎◌, ◌≤◌, ℕ, List, IfSome, length};
+ghost use Rattle.action_table.specs.declared.action.Action.{Action};
 ghost use Rattle.craft_io.specs.Causes.{Rose};
 ghost use Rattle.craft_io.specs.Views.{GivesAtMost, GivesFewer, ReadsAtMostTimes};
 ghost use Rattle.run_io.specs.Answering.{CountsReadFault, CountsWriteFault, GivesTold, HasRow, ReadsAndWrites, Refuses, Tells, Writes, WritesPart};
@@ -11,6 +12,7 @@ ghost use Rattle.solve_words.specs.declared.words.Words.{Words as WordsFields};
 ghost use Rattle.solve_engine.specs.Check.{CheckAnswers};
 ghost use Rattle.solve_engine.specs.Commands.{Answers, IsDone, Task, most_for, most_of};
 ghost use Rattle.solve_engine.specs.Replay.{ReplayAnswers};
+ghost use Rattle.solve_engine.specs.Resume.{ResumeAnswers};
 ghost use Rattle.solve_engine.specs.Sample.{SampleAnswers};
 ghost use Rattle.solve_engine.specs.Solve.{SolveAnswers};
 ghost use Rattle.solve_engine.specs.Sweep.{SweepAnswers};
@@ -18,6 +20,7 @@ ghost use Rattle.solve_engine.specs.Words.{AreBad, Ask, AskTo, AskToSample, AskT
 
 use crate::check::check;
 use crate::replay::replay;
+use crate::resume::resume;
 use crate::sample::sample;
 use crate::solve::solve;
 use crate::sweep::sweep;
@@ -33,11 +36,12 @@ use worker_gate::Gate;
 /// The words are a command and its options, as `read_words` has them. `solve` reads settings from `source`, at most
 /// 65537 bytes, and writes the text of the best macro to `out`, in the style and at the grain that the words name, or
 /// `none` where no legal macro completes the craft. `sample` reads nothing, and writes two lines on the best macro of
-/// the sample settings of its number. `sweep` reads settings too, and writes the least base quality with which a macro
-/// has all the quality that counts. `replay` and `check` read settings, a line `---` and macro text, together at most
-/// 65536 bytes; `replay` writes what the macro does step by step, and `check` whether it is the best one. Every other
-/// answer comes with a line on `err`. A failure of `err` changes nothing, and neither the number of workers nor the
-/// gate does.
+/// the sample settings of its number. `resume` reads settings, and writes the text of the best way to end the craft
+/// after the actions that are done, or `none`. `sweep` reads settings too, and writes the least base quality with which
+/// a macro has all the quality that counts. `replay` and `check` read settings, a line `---` and macro text, together at
+/// most 65536 bytes; `replay` writes what the macro does step by step, and `check` whether it is the best one. Every
+/// other answer comes with a line on `err`. A failure of `err` changes nothing, and neither the number of workers nor
+/// the gate does.
 pub fn run<S: Source, O: Sink, E: Sink, G: Gate>(
     rt: &(impl Threads + Sync),
     alloc: Global,
@@ -55,6 +59,9 @@ pub fn run<S: Source, O: Sink, E: Sink, G: Gate>(
     // The two lines on the best macro of a sample were written, or on none.
     ensures sample { (asked : AskToSample words.now) → IsResult result
         → Writes (SampleAnswers asked.given asked.number) result (O.view out.old) (O.view out.new) }
+    // The text of the best way to end the craft after the actions that are done was written, or that there is none.
+    ensures resume { (done : List Action) → AskTo (Command.Resume done) words.now → IsResult result
+        → ReadsAndWrites (ResumeAnswers done) result (S.view source.old) (S.view source.new) (O.view out.old) (O.view out.new) }
     // The least base quality that is enough for the settings was written, or that none is.
     ensures sweep { AskTo Command.Sweep words.now → IsResult result
         → ReadsAndWrites SweepAnswers result (S.view source.old) (S.view source.new) (O.view out.old) (O.view out.new) }
@@ -137,7 +144,7 @@ fn carry_out<S: Source, G: Gate>(
     ensures runs { RunsTo (Answers given.now) (most_of given.now.command) result (S.view source.old) (S.view source.new) }
     ensures nothing_read { most_of given.now.command ≡ 0 → source.new ≡ source.old }
 {
-    let input = read_up_to(alloc, source, most_of(given.command))?;
+    let input = read_up_to(alloc, source, most_of(&given.command))?;
     answer_to(rt, alloc, given, &input, gate)
 }
 
@@ -153,9 +160,10 @@ fn answer_to<G: Gate>(
     requires within { length input.now ≤ most_of given.now.command }
     ensures { IsIn (Answers given.now input.now) result }
 {
-    match given.command {
+    match &given.command {
         Command::Solve => solve(rt, alloc, given, input, gate),
-        Command::Sample(n) => sample(rt, alloc, given, n, gate),
+        Command::Sample(n) => sample(rt, alloc, given, *n, gate),
+        Command::Resume(done) => resume(rt, alloc, given.workers, &done.actions, input, gate),
         Command::Sweep => sweep(rt, alloc, given, input, gate),
         Command::Replay => replay(alloc, input),
         Command::Check => check(rt, alloc, given, input, gate),
@@ -163,11 +171,12 @@ fn answer_to<G: Gate>(
 }
 
 // The most bytes that a command reads.
-fn most_of(command: Command) -> usize
-    ensures { result ≡ most_of command }
+fn most_of(command: &Command) -> usize
+    ensures { result ≡ most_of command.now }
 {
     match command {
-        Command::Solve | Command::Sweep | Command::Replay | Command::Check => READ_MOST,
+        Command::Solve | Command::Resume(_) | Command::Sweep | Command::Replay | Command::Check =>
+            READ_MOST,
         Command::Sample(_) => 0,
     }
 }

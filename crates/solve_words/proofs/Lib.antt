@@ -2,3 +2,4 @@ pub mod Numbers
 pub mod Walks
 pub mod Strays
 pub mod OptionForm
+pub mod Listed

@@ -10,7 +10,9 @@ abbrev pub raw : Text → Rule
 raw name = record (new_rule name) { long = Some name; action = Some action.Set }
 
 abbrev pub app_with : Text → List Rule → App
-app_with name rules = record (new_app name) { top = record (new_shape name) { rules = rules; disable_help_flag = true; no_binary_name = true } }
+app_with name rules = record (new_app name) {
+  top = record (new_shape name) { rules = rules; disable_help_flag = true; no_binary_name = true };
+}
 
 abbrev pub app : Text → List Text → App
 app title names = app_with title (map raw names)

@@ -5,12 +5,13 @@ use Rattle.std.specs.Str.{bytes_eq}
 use Rattle.clap.specs.Matches.{found_of, first_value}
 use Rattle.clap.specs.declared.parser.matches.ArgMatches.{ArgMatches}
 use Rattle.solve_words.specs.Form.{Text, Given, given_in, value_of}
+use Rattle.solve_words.specs.Done.{done_of}
 use Rattle.solve_words.specs.Values.{number_or, report_or, sample_number_of, default_workers, default_grain}
 use Rattle.craft_settings.specs.Ranges.{IsFromTo}
 use Rattle.sample_craft.specs.Sample.{most_number}
 use Rattle.replay_report.specs.declared.style.Report.{Report}
 use Rattle.solve_words.specs.declared.words.Command.{Command}
-use Rattle.solve_words.specs.declared.words.Command.TheVariants.{Solve, Sample, Sweep, Replay, Check}
+use Rattle.solve_words.specs.declared.words.Command.TheVariants.{Solve, Sample, Resume, Sweep, Replay, Check}
 use Rattle.solve_words.specs.declared.words.Words.{Words}
 
 abbrev pub words_read : Command → Option ℕ → Option ℕ → Option Report → Option Words
@@ -28,6 +29,7 @@ words_given command given =
 abbrev pub options_of : Command → List Text
 options_of Solve = codes "workers" ∷ codes "grain" ∷ codes "report" ∷ []
 options_of (Sample number) = codes "workers" ∷ codes "grain" ∷ []
+options_of (Resume done) = codes "done" ∷ codes "workers" ∷ codes "grain" ∷ []
 options_of Sweep = codes "workers" ∷ codes "grain" ∷ []
 options_of Replay = []
 options_of Check = codes "workers" ∷ codes "grain" ∷ []
@@ -42,11 +44,20 @@ after_sample [] = None
 after_sample (number ∷ rest) =
     option_and_then (λ n. words_with (Sample n) rest) (sample_number_of number)
 
+-- what the options of `resume` say: the actions that are done must be there
+abbrev pub resume_given : List Given → Option Words
+resume_given given =
+    option_and_then (λ done. words_given (Resume done) given) (option_and_then done_of (value_of (codes "done") given))
+
+-- what the words after `resume` say: options
+abbrev pub after_resume : List Text → Option Words
+after_resume words = option_and_then resume_given (given_in (options_of (Resume [])) words)
+
 -- the commands, each with what the words after it say
 abbrev pub command_table : List (Text × (List Text → Option Words))
 command_table =
-    (codes "solve", words_with Solve) ∷ (codes "sample", after_sample) ∷ (codes "sweep", words_with Sweep)
-    ∷ (codes "replay", words_with Replay) ∷ (codes "check", words_with Check) ∷ []
+    (codes "solve", words_with Solve) ∷ (codes "sample", after_sample) ∷ (codes "resume", after_resume)
+    ∷ (codes "sweep", words_with Sweep) ∷ (codes "replay", words_with Replay) ∷ (codes "check", words_with Check) ∷ []
 
 -- what the words say; none where they are not of the form
 abbrev pub words_of : List Text → Option Words
@@ -69,3 +80,9 @@ pub record FindsOptions (names words : List Text) (m : ArgMatches) : Type 0 wher
   pub given : List Given
   pub is : given_in names words ≡ Some given
   pub values : (id : Text) → first_value (found_of m) id ≡ value_of id given
+
+-- what a command says with the options that clap found
+abbrev pub words_found : Command → ArgMatches → Option Words
+words_found command m =
+    words_read command (number_or (first_value (found_of m) (codes "workers")) default_workers)
+    (number_or (first_value (found_of m) (codes "grain")) default_grain) (report_or (first_value (found_of m) (codes "report")))

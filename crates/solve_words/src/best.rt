@@ -5,7 +5,7 @@ ghost use Rattle.solve_words.specs.Best.{best_words_of};
 
 use crate::fault::WordsFault;
 use crate::values::number_or;
-use crate::{DEFAULT_WORKERS, has_stray, options};
+use crate::{DEFAULT_WORKERS, options};
 use std::alloc::Global;
 
 /// Reads the words after the name of the program that finds the best macro alone: none, or `--workers` once, with a
@@ -14,7 +14,8 @@ use std::alloc::Global;
 pub fn read_best_words(alloc: Global, words: &[String]) -> Result<u32, WordsFault>
     ensures ok { IfOk result (λ workers. best_words_of (map string_bytes words.now) ≡ Some workers) }
     ensures range { IfOk result (IsFromTo 1 64) }
-    ensures bad { IsErrOf result WordsFault.BadWords ↔ (best_words_of (map string_bytes words.now) ≡ None × ¬ IsErrOf result WordsFault.WantMemory) }
+    ensures bad { IsErrOf result WordsFault.BadWords
+        ↔ (best_words_of (map string_bytes words.now) ≡ None × ¬ IsErrOf result WordsFault.WantMemory) }
 {
     workers_in(alloc, words)
 }
@@ -25,9 +26,6 @@ fn workers_in(alloc: Global, words: &[String]) -> Result<u32, WordsFault>
         (λ e. e ≡ WordsFault.BadWords → best_words_of (map string_bytes words.now) ≡ None) }
     ensures range { IfOk result (IsFromTo 1 64) }
 {
-    if has_stray(words) {
-        return Err(WordsFault::BadWords);
-    }
     let matches = options(alloc, &["workers"], words)?;
     let Some(workers) = number_or(matches.get_str("workers"), DEFAULT_WORKERS) else {
         return Err(WordsFault::BadWords);

@@ -1,14 +1,15 @@
 // The words after a program's name.
 #![tactic(auto)]
 
-ghost use Rattle.std.specs.Prelude.{◌≡◌, ◌≢◌, ◌↔◌, IfOk, IfErr, IsErrOf, MatchResult, None, Some, false, map, codes, string_bytes};
+ghost use Rattle.std.specs.Prelude.{◌≡◌, ◌≢◌, ◌↔◌, IfOk, IfErr, IsErrOf, MatchResult, None, Some, map, codes, string_bytes};
 ghost use Rattle.std.specs.List.{list_any};
 ghost use Rattle.clap.specs.Words.{app_of};
 ghost use Rattle.solve_words.specs.Clap.{app};
 ghost use Rattle.solve_words.specs.Form.{given_in, is_stray as stray};
-ghost use Rattle.solve_words.specs.Words.{AreInRange, FindsOptions, HasSample, after_sample, words_with, words_of};
+ghost use Rattle.solve_words.specs.Words.{AreInRange, FindsOptions, HasSample, after_resume, after_sample, words_found, words_with, words_of};
 
 mod best;
+mod done;
 mod fault;
 pub mod laws;
 #[cfg(test)]
@@ -19,11 +20,14 @@ mod words;
 use action_table::WantMemory;
 pub use best::read_best_words;
 use clap::{Arg, ArgAction, ArgMatches};
+pub use done::Done;
+use done::done_in;
 pub use fault::WordsFault;
 use fault::fault_for;
 pub use replay_report::Report;
 use std::alloc::Global;
 use values::{is_stray, number_or, report_or, sample_number};
+use words::RESUME_OPTIONS;
 pub use words::{Command, Words};
 
 const DEFAULT_WORKERS: u32 = 4;
@@ -31,14 +35,16 @@ const DEFAULT_WORKERS: u32 = 4;
 const DEFAULT_GRAIN: u32 = 16;
 
 /// Reads the words after the program's name: a command and then its options in any order, each at
-/// most once, as `--name value` or `--name=value`. The command is `solve`, `sweep`, `replay`, `check`, or `sample` and
-/// the sample's number of one to six digits with no leading 0 unless it is `0`. All but `replay` have `--workers` and
-/// `--grain` of 1 to 64, and `solve` has `--report` as `plain`, `limits` or `levels`. BadWords comes for all other
-/// words, and for no others.
+/// most once, as `--name value` or `--name=value`. The command is `solve`, `resume`, `sweep`, `replay`, `check`, or
+/// `sample` and the sample's number of one to six digits with no leading 0 unless it is `0`. All but `replay` have
+/// `--workers` and `--grain` of 1 to 64, and `solve` has `--report` as `plain`, `limits` or `levels`. `resume` must have
+/// `--done`: the key names of one or more actions, with single commas between them. BadWords comes for all other words,
+/// and for no others.
 pub fn read_words(alloc: Global, words: &[String]) -> Result<Words, WordsFault>
     ensures ok { IfOk result (λ read. words_of (map string_bytes words.now) ≡ Some read) }
     ensures range { IfOk result AreInRange }
-    ensures bad { IsErrOf result WordsFault.BadWords ↔ (words_of (map string_bytes words.now) ≡ None × ¬ IsErrOf result WordsFault.WantMemory) }
+    ensures bad { IsErrOf result WordsFault.BadWords
+        ↔ (words_of (map string_bytes words.now) ≡ None × ¬ IsErrOf result WordsFault.WantMemory) }
 {
     let Some((first, rest)) = words.split_first() else {
         return Err(WordsFault::BadWords);
@@ -46,6 +52,7 @@ pub fn read_words(alloc: Global, words: &[String]) -> Result<Words, WordsFault>
     match first.as_str() {
         "solve" => with_options(alloc, Command::Solve, rest),
         "sample" => read_sample(alloc, rest),
+        "resume" => read_resume(alloc, rest),
         "sweep" => with_options(alloc, Command::Sweep, rest),
         "replay" => with_options(alloc, Command::Replay, rest),
         "check" => with_options(alloc, Command::Check, rest),
@@ -55,7 +62,8 @@ pub fn read_words(alloc: Global, words: &[String]) -> Result<Words, WordsFault>
 
 // The words after `sample`: its number, and then options.
 fn read_sample(alloc: Global, words: &[String]) -> Result<Words, WordsFault>
-    ensures form { MatchResult result (λ read. after_sample (map string_bytes words.now) ≡ Some read) (λ e. e ≡ WordsFault.BadWords → after_sample (map string_bytes words.now) ≡ None) }
+    ensures form { MatchResult result (λ read. after_sample (map string_bytes words.now) ≡ Some read)
+        (λ e. e ≡ WordsFault.BadWords → after_sample (map string_bytes words.now) ≡ None) }
     ensures range { IfOk result AreInRange }
 {
     let Some((number, rest)) = words.split_first() else {
@@ -67,6 +75,22 @@ fn read_sample(alloc: Global, words: &[String]) -> Result<Words, WordsFault>
     with_options(alloc, Command::Sample(number), rest)
 }
 
+// The words after `resume`: options, among which the actions that are done must be.
+fn read_resume(alloc: Global, words: &[String]) -> Result<Words, WordsFault>
+    ensures form { MatchResult result (λ read. after_resume (map string_bytes words.now) ≡ Some read)
+        (λ e. e ≡ WordsFault.BadWords → after_resume (map string_bytes words.now) ≡ None) }
+    ensures range { IfOk result AreInRange }
+{
+    let matches = options(alloc, RESUME_OPTIONS, words)?;
+    let Some(list) = matches.get_str("done") else {
+        return Err(WordsFault::BadWords);
+    };
+    let Some(done) = done_in(alloc, list)? else {
+        return Err(WordsFault::BadWords);
+    };
+    words_in(Command::Resume(done), &matches)
+}
+
 // The command with the options that the words give it.
 fn with_options(alloc: Global, command: Command, words: &[String]) -> Result<Words, WordsFault>
     requires { HasSample command }
@@ -74,10 +98,17 @@ fn with_options(alloc: Global, command: Command, words: &[String]) -> Result<Wor
         (λ e. e ≡ WordsFault.BadWords → words_with command (map string_bytes words.now) ≡ None) }
     ensures range { IfOk result AreInRange }
 {
-    if has_stray(words) {
-        return Err(WordsFault::BadWords);
-    }
     let matches = options(alloc, command.option_names(), words)?;
+    words_in(command, &matches)
+}
+
+// The command with the values of the options that were found.
+fn words_in(command: Command, matches: &ArgMatches<'_>) -> Result<Words, WordsFault>
+    requires { HasSample command }
+    ensures form { MatchResult result (λ read. words_found command matches.now ≡ Some read)
+        (λ _. words_found command matches.now ≡ None) }
+    ensures range { IfOk result AreInRange }
+{
     let Some(workers) = number_or(matches.get_str("workers"), DEFAULT_WORKERS) else {
         return Err(WordsFault::BadWords);
     };
@@ -102,16 +133,19 @@ fn has_stray(words: &[String]) -> bool
     words.iter().any(|word| is_stray(word.as_str()))
 }
 
-// The options that clap finds.
+// The options that clap finds. Words of which one is stray give none.
 fn options<'a>(
     alloc: Global,
     names: &[&'a str],
     words: &'a [String],
 ) -> Result<ArgMatches<'a>, WordsFault>
-    requires { list_any stray (map string_bytes words.now) ≡ false }
     ensures ok { IfOk result (λ m. FindsOptions (map (λ s. s.now) names.now) (map string_bytes words.entry.now) m) }
-    ensures bad { IfErr result (λ e. e ≡ WordsFault.BadWords → given_in (map (λ s. s.now) names.now) (map string_bytes words.entry.now) ≡ None) }
+    ensures bad { IfErr result (λ e. e ≡ WordsFault.BadWords
+        → given_in (map (λ s. s.now) names.now) (map string_bytes words.entry.now) ≡ None) }
 {
+    if has_stray(words) {
+        return Err(WordsFault::BadWords);
+    }
     let command = command(alloc, names)?;
     match command.try_get_matches_from(words) {
         Ok(matches) => Ok(matches),

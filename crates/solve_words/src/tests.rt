@@ -1,20 +1,41 @@
 use crate::{Command, Report, Words, WordsFault, read_words};
+use action_table::Action;
 use std::alloc::{AllocError, Global};
 use std::test::Fail;
 
-const DEFAULT: Words = Words {
-    command: Command::Solve,
+// A command, with what stands beside its word.
+#[derive(Clone, Copy)]
+enum Asked {
+    Solve,
+    Sample(u32),
+    Resume(&'static [Action]),
+    Sweep,
+    Replay,
+    Check,
+}
+
+// What words say.
+#[derive(Clone, Copy)]
+struct Said {
+    command: Asked,
+    workers: u32,
+    grain: u32,
+    report: Report,
+}
+
+const DEFAULT: Said = Said {
+    command: Asked::Solve,
     workers: 4,
     grain: 16,
     report: Report::Plain,
 };
 
 // Words of the form, and what they say.
-const ACCEPTED: [(&[&str], Words); 12] = [
+const ACCEPTED: [(&[&str], Said); 15] = [
     (&["solve"], DEFAULT),
     (
         &["solve", "--workers=64", "--report", "limits"],
-        Words {
+        Said {
             workers: 64,
             report: Report::Limits,
             ..DEFAULT
@@ -29,7 +50,7 @@ const ACCEPTED: [(&[&str], Words); 12] = [
             "--workers",
             "10",
         ],
-        Words {
+        Said {
             workers: 10,
             grain: 9,
             report: Report::Levels,
@@ -39,23 +60,23 @@ const ACCEPTED: [(&[&str], Words); 12] = [
     (&["solve", "--report", "plain"], DEFAULT),
     (
         &["sample", "0"],
-        Words {
-            command: Command::Sample(0),
+        Said {
+            command: Asked::Sample(0),
             ..DEFAULT
         },
     ),
     (
         &["sample", "7", "--workers", "1"],
-        Words {
-            command: Command::Sample(7),
+        Said {
+            command: Asked::Sample(7),
             workers: 1,
             ..DEFAULT
         },
     ),
     (
         &["sample", "999999", "--grain=64", "--workers=2"],
-        Words {
-            command: Command::Sample(999999),
+        Said {
+            command: Asked::Sample(999999),
             workers: 2,
             grain: 64,
             ..DEFAULT
@@ -63,29 +84,59 @@ const ACCEPTED: [(&[&str], Words); 12] = [
     ),
     (
         &["sample", "100020"],
-        Words {
-            command: Command::Sample(100020),
+        Said {
+            command: Asked::Sample(100020),
+            ..DEFAULT
+        },
+    ),
+    (
+        &["resume", "--done", "basic_touch"],
+        Said {
+            command: Asked::Resume(&[Action::BasicTouch]),
+            ..DEFAULT
+        },
+    ),
+    (
+        &[
+            "resume",
+            "--workers",
+            "3",
+            "--done=waste_not,waste_not_ii,waste_not",
+            "--grain=5",
+        ],
+        Said {
+            command: Asked::Resume(&[Action::WasteNot, Action::WasteNotII, Action::WasteNot]),
+            workers: 3,
+            grain: 5,
+            ..DEFAULT
+        },
+    ),
+    (
+        &["resume", "--grain=64", "--done", "trained_eye,observe"],
+        Said {
+            command: Asked::Resume(&[Action::TrainedEye, Action::Observe]),
+            grain: 64,
             ..DEFAULT
         },
     ),
     (
         &["replay"],
-        Words {
-            command: Command::Replay,
+        Said {
+            command: Asked::Replay,
             ..DEFAULT
         },
     ),
     (
         &["check"],
-        Words {
-            command: Command::Check,
+        Said {
+            command: Asked::Check,
             ..DEFAULT
         },
     ),
     (
         &["check", "--grain=2", "--workers", "64"],
-        Words {
-            command: Command::Check,
+        Said {
+            command: Asked::Check,
             workers: 64,
             grain: 2,
             ..DEFAULT
@@ -93,8 +144,8 @@ const ACCEPTED: [(&[&str], Words); 12] = [
     ),
     (
         &["sweep", "--workers=1", "--grain", "63"],
-        Words {
-            command: Command::Sweep,
+        Said {
+            command: Asked::Sweep,
             workers: 1,
             grain: 63,
             ..DEFAULT
@@ -102,7 +153,7 @@ const ACCEPTED: [(&[&str], Words); 12] = [
     ),
 ];
 
-const REFUSED: [&[&str]; 29] = [
+const REFUSED: [&[&str]; 37] = [
     &[],
     &[""],
     &["Solve"],
@@ -124,6 +175,14 @@ const REFUSED: [&[&str]; 29] = [
     &["sample", "--workers", "2", "1"],
     &["sample", "1", "2"],
     &["sample", "1", "--"],
+    &["resume"],
+    &["resume", "--workers", "2"],
+    &["resume", "--done"],
+    &["resume", "observe"],
+    &["resume", "--done", "observe", "--done=observe"],
+    &["resume", "--done", "observe", "observe"],
+    &["resume", "--done", "observe", "--report", "plain"],
+    &["solve", "--done", "observe"],
     &["replay", "--workers", "1"],
     &["replay", "--grain=1"],
     &["replay", "replay"],
@@ -136,6 +195,18 @@ const REFUSED: [&[&str]; 29] = [
 
 const NO_COUNTS: [&str; 9] = ["", "0", "65", "04", "-1", "+1", "100", "1 ", "x"];
 
+const NO_LISTS: [&str; 9] = [
+    "",
+    ",",
+    "observe,",
+    ",observe",
+    "observe,,observe",
+    "observe, observe",
+    "Observe",
+    "basic_tuch",
+    "observe;observe",
+];
+
 const NO_SAMPLES: [&str; 9] = ["", "00", "01", "-1", "+1", "1000000", "1 ", "0x1", "1_0"];
 
 fn read(alloc: Global, words: &[&str]) -> Result<Result<Words, WordsFault>, AllocError> {
@@ -146,10 +217,35 @@ fn read(alloc: Global, words: &[&str]) -> Result<Result<Words, WordsFault>, Allo
     Ok(read_words(alloc, all.as_slice()))
 }
 
+fn is_asked(command: &Command, wanted: Asked) -> bool {
+    match (command, wanted) {
+        (Command::Solve, Asked::Solve)
+        | (Command::Sweep, Asked::Sweep)
+        | (Command::Replay, Asked::Replay)
+        | (Command::Check, Asked::Check) => true,
+        (Command::Sample(number), Asked::Sample(wanted)) => *number == wanted,
+        (Command::Resume(done), Asked::Resume(wanted)) => done.actions.as_slice() == wanted,
+        _ => false,
+    }
+}
+
+fn is_said(words: &Words, wanted: Said) -> bool {
+    is_asked(&words.command, wanted.command)
+        && words.workers == wanted.workers
+        && words.grain == wanted.grain
+        && words.report == wanted.report
+}
+
+// Whether words aren't of the form.
+fn is_refused(alloc: Global, words: &[&str]) -> Result<bool, AllocError> {
+    Ok(matches!(read(alloc, words)?, Err(WordsFault::BadWords)))
+}
+
 #[test]
 fn accepts(rt: HostRuntime) -> Result<(), Fail> {
     for (words, wanted) in ACCEPTED {
-        assert!(rt; read(rt.alloc(), words)? == Ok(wanted), "{words:?}");
+        let read = read(rt.alloc(), words)?;
+        assert!(rt; read.is_ok_and(|read| is_said(&read, wanted)), "{words:?}");
     }
     Ok(())
 }
@@ -157,18 +253,22 @@ fn accepts(rt: HostRuntime) -> Result<(), Fail> {
 #[test]
 fn refuses(rt: HostRuntime) -> Result<(), Fail> {
     for words in REFUSED {
-        assert!(rt;
-            read(rt.alloc(), words)? == Err(WordsFault::BadWords),
-            "{words:?}"
-        );
+        assert!(rt; is_refused(rt.alloc(), words)?, "{words:?}");
     }
     for count in NO_COUNTS {
-        let answer = read(rt.alloc(), &["solve", "--workers", count])?;
-        assert!(rt; answer == Err(WordsFault::BadWords), "{count}");
+        assert!(rt;
+            is_refused(rt.alloc(), &["solve", "--workers", count])?,
+            "{count}"
+        );
+    }
+    for list in NO_LISTS {
+        assert!(rt;
+            is_refused(rt.alloc(), &["resume", "--done", list])?,
+            "{list}"
+        );
     }
     for number in NO_SAMPLES {
-        let answer = read(rt.alloc(), &["sample", number])?;
-        assert!(rt; answer == Err(WordsFault::BadWords), "{number}");
+        assert!(rt; is_refused(rt.alloc(), &["sample", number])?, "{number}");
     }
     Ok(())
 }

@@ -1,9 +1,9 @@
 use Rattle.std.proofs.Common.{arith}
-use Rattle.solve_words.specs.declared.words.Command.TheVariants.{Solve, Sweep, Replay, Check}
+use Rattle.solve_words.specs.declared.words.Command.TheVariants.{Solve, Resume, Sweep, Replay, Check}
 use Rattle.run_io.proofs.Tasks.{answer_complete, answer_part, halt_complete, halt_long, halt_refused}
 use Rattle.solve_engine.specs.Commands.{Answers, most_read}
 use Rattle.solve_engine.specs.Words.{asked}
-use Rattle.solve_engine.proofs.Ending.{answer_not_long, answer_read}
+use Rattle.solve_engine.proofs.Ending.{answer_not_long, answer_read, failed_read}
 use Rattle.solve_engine.proofs.top.run.Goals as goal
 
 pub returns-in-Ok-clause-solve : goal.returns-in-Ok-clause-solve
@@ -11,6 +11,10 @@ returns-in-Ok-clause-solve g c =
     λ asked result.
     let both = answer_read c.args.words.now c.in-Ok.answer c.write_answer.result _ _ c.in-Ok.ensures.done c.write_answer.ensures.status Solve (omega arith) asked _ _ result (c.write_answer.ensures.whole result) in
     (both.input, both.all, both.writes)
+
+pub returns-in-Ok-clause-resume : goal.returns-in-Ok-clause-resume
+returns-in-Ok-clause-resume g c =
+    λ done asked result. answer_read c.args.words.now c.in-Ok.answer c.write_answer.result _ _ c.in-Ok.ensures.done c.write_answer.ensures.status (Resume done) (omega arith) asked _ _ result (c.write_answer.ensures.whole result)
 
 pub returns-in-Ok-clause-sweep : goal.returns-in-Ok-clause-sweep
 returns-in-Ok-clause-sweep g c =
@@ -36,6 +40,10 @@ returns-in-Ok-clause-part g c =
 pub returns-in-Err-clause-complete : goal.returns-in-Err-clause-complete
 returns-in-Err-clause-complete g c =
     λ given form quiet _. halt_complete (asked c.args.words.now) most_read Answers c.in-Err.halt c.tell.result _ _ c.in-Err.ensures.done c.tell.ensures.status given form quiet
+
+pub returns-in-Err-clause-read_fault : goal.returns-in-Err-clause-read_fault
+returns-in-Err-clause-read_fault g c =
+    λ fault. failed_read c.args.words.now c.in-Err.halt c.tell.result _ _ c.in-Err.ensures.done c.tell.ensures.status fault
 
 pub returns-in-Err-clause-refused : goal.returns-in-Err-clause-refused
 returns-in-Err-clause-refused g c =
