@@ -89,6 +89,23 @@ zipped r (v ∷ vs) (w ∷ ws) same each = (each 0 v (omega arith), zipped r vs 
 pub all-still : {A : Type 0} (may_ask : A → Type 0) (still : A → A → Type 0) (t : ℕ → List Node) (before after : List (Walker A)) → HaveFound may_ask still t before after → AllStillAsk still before after
 all-still may_ask still t before after found = zipped (λ v w. still v.asker w.asker) before after found.as_many (λ k d below. (found.each k d below).still)
 
+-- each of the workers asks with what it asked with
+pub record AskAlike {A : Type 0} (before after : List (Walker A)) : Type 0 where
+  pub as_many : length after ≡ length before
+  pub each : (k : ℕ) (d : Walker A) → k < length before → (get_or after k d).asker ≡ (get_or before k d).asker
+
+pub alike-may : {A : Type 0} (may_ask : A → Type 0) (before after : List (Walker A)) → AskAlike before after → AllMayAsk may_ask before → AllMayAsk may_ask after
+alike-may may_ask before after alike may k d below =
+    let less : k < length before = omega (arith, alike.as_many, below) in
+    subst may_ask (sym (alike.each k d less)) (may k d less)
+
+pub alike-still : {A : Type 0} (may_ask : A → Type 0) (still : A → A → Type 0) (t : ℕ → List Node) (first before after : List (Walker A)) → HaveFound may_ask still t first before →
+    AskAlike before after → AllStillAsk still first after
+alike-still may_ask still t first before after found alike =
+    zipped (λ v w. still v.asker w.asker) first after (alike.as_many ∙ found.as_many) (λ k d below.
+    let less : k < length before = omega (arith, found.as_many, below) in
+    subst (still (get_or first k d).asker) (sym (alike.each k d less)) (found.each k d below).still)
+
 -- over several calls
 pub stills-same : {A : Type 0} (still : A → A → Type 0) → ((a : A) → still a a) → (ws : List (Walker A)) → AllStillAsk still ws ws
 stills-same still same [] = tt

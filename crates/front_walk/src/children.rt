@@ -5,7 +5,7 @@ ghost use Rattle.front_walk.specs.Nodes.{IsNode, child_by, children_by, nodes_up
 use crate::state_test::StateTest;
 use crate::walk::Stage;
 use action_table::{Action, WantMemory};
-use pareto_front::Node;
+use pareto_front::{Node, PackedNode};
 use std::alloc::Global;
 use step_rules::{check, is_final, step};
 
@@ -16,7 +16,7 @@ pub(crate) fn children_in<T: StateTest>(
     from: usize,
     to: usize,
     asker: &mut T::Asker,
-) -> Result<Vec<Node>, WantMemory>
+) -> Result<Vec<PackedNode>, WantMemory>
     requires asker { T.may_ask stage.now.walk.now.test.now asker.old }
     requires order { from ≤ to }
     requires inside { to ≤ length stage.now.nodes.now }
@@ -27,7 +27,8 @@ pub(crate) fn children_in<T: StateTest>(
 {
     let mut found = Vec::new(alloc);
     for place in from..to {
-        push_children(&mut found, stage, place, &stage.nodes[place], asker)?;
+        let node = stage.nodes[place].node();
+        push_children(&mut found, stage, place, &node, asker)?;
     }
     Ok(found)
 }
@@ -35,7 +36,7 @@ pub(crate) fn children_in<T: StateTest>(
 // Appends the children of a node that go on and pass.
 #[tactic(auto, unfolding(crate::specs::Nodes::children_by))]
 fn push_children<T: StateTest>(
-    found: &mut Vec<Node>,
+    found: &mut Vec<PackedNode>,
     stage: &Stage<'_, T>,
     place: usize,
     node: &Node,
@@ -50,7 +51,7 @@ fn push_children<T: StateTest>(
 {
     for &action in Action::ALL.iter() {
         if let Some(next) = child(stage, place, node, action, asker) {
-            found.push(next)?;
+            found.push(PackedNode::of(&next))?;
         }
     }
     Ok(())

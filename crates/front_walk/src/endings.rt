@@ -6,7 +6,7 @@ ghost use Rattle.front_walk.specs.Nodes.{IsNode, child_by, children_by, nodes_by
 use crate::state_test::StateTest;
 use crate::walk::Walk;
 use action_table::{Action, WantMemory};
-use pareto_front::Node;
+use pareto_front::{Node, PackedNode};
 use std::alloc::Global;
 use step_rules::{check, counted, is_complete, step};
 
@@ -14,14 +14,14 @@ use step_rules::{check, counted, is_complete, step};
 pub(crate) fn endings<T: StateTest>(
     alloc: Global,
     walk: &Walk<'_, T>,
-    nodes: &[Node],
+    nodes: &[PackedNode],
 ) -> Result<Vec<Node>, WantMemory>
     requires nodes { All (IsNode walk.now.g.now (T.allows walk.now.test.now)) nodes.now }
     ensures { let w = walk.now in IfOk result (λ v. v.items ≡ nodes_by w.g.now (finishes w.g.now w.target) nodes.now) }
 {
     let mut found = Vec::new(alloc);
-    for (place, node) in nodes.iter().enumerate() {
-        push_endings(&mut found, walk, place, node)?;
+    for (place, packed) in nodes.iter().enumerate() {
+        push_endings(&mut found, walk, place, &packed.node())?;
     }
     Ok(found)
 }

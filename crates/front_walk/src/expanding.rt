@@ -10,7 +10,7 @@ use crate::state_test::StateTest;
 use crate::walk::{Stage, Walk};
 use crate::walker::Walker;
 use action_table::{Action, WantMemory};
-use pareto_front::Node;
+use pareto_front::{Node, PackedNode};
 use std::alloc::Global;
 use std::thread::Threads;
 use worker_gate::{Crew, Gate, range_of};
@@ -20,7 +20,7 @@ pub(crate) fn expand<T: StateTest, R: Threads + Sync, G: Gate>(
     crew: &mut Crew<'_, R, G, Walker<T::Asker>>,
     alloc: Global,
     stage: &Stage<'_, T>,
-) -> Result<Vec<Node>, WantMemory>
+) -> Result<Vec<PackedNode>, WantMemory>
     requires askers { AllMayAsk (T.may_ask stage.now.walk.now.test.now) crew.old.workers }
     ensures askers { AllMayAsk (T.may_ask stage.now.walk.now.test.now) crew.new.workers }
     ensures still { AllStillAsk T.still_asks crew.old.workers crew.new.workers }
@@ -28,7 +28,18 @@ pub(crate) fn expand<T: StateTest, R: Threads + Sync, G: Gate>(
         IfOk result (λ v. v.items ≡ nodes_by w.g.now (goes_and_passes w.g.now (T.passes w.test.now) stage.now.left) stage.now.nodes.now) }
 {
     expand_ranges(crew, alloc, stage);
-    gather(alloc, crew.workers())
+    let children = gather(alloc, crew.workers());
+    let_go(crew, alloc);
+    children
+}
+
+// Each worker lets go of what it found, whose memory the pruning can then use.
+fn let_go<A: Send, R: Threads + Sync, G: Gate>(crew: &mut Crew<'_, R, G, Walker<A>>, alloc: Global)
+    ensures as_many { length crew.new.workers ≡ length crew.old.workers }
+    ensures asker { (k : ℕ) (d : _) → k < length crew.old.workers →
+        (slice_index_or crew.new.workers k d).asker ≡ (slice_index_or crew.old.workers k d).asker }
+{
+    crew.each(|_k, walker: &mut Walker<A>| walker.let_go(alloc));
 }
 
 // Each worker expands its range of the level.
@@ -82,7 +93,7 @@ pub(crate) fn first_level<T: StateTest, R: Threads + Sync, G: Gate>(
     alloc: Global,
     walk: &Walk<'_, T>,
     n: u32,
-) -> Result<Vec<Node>, WantMemory>
+) -> Result<Vec<PackedNode>, WantMemory>
     requires askers { AllMayAsk (T.may_ask walk.now.test.now) crew.old.workers }
     ensures askers { AllMayAsk (T.may_ask walk.now.test.now) crew.new.workers }
     ensures still { AllStillAsk T.still_asks crew.old.workers crew.new.workers }
@@ -140,7 +151,7 @@ fn root<T: StateTest>(
     walk: &Walk<'_, T>,
     n: u32,
     asker: &mut T::Asker,
-) -> Result<Vec<Node>, WantMemory>
+) -> Result<Vec<PackedNode>, WantMemory>
     requires asker { T.may_ask walk.now.test.now asker.old }
     ensures asker { T.may_ask walk.now.test.now asker.new }
     ensures still { T.still_asks asker.old asker.new }
@@ -148,18 +159,18 @@ fn root<T: StateTest>(
 {
     let mut nodes = Vec::new(alloc);
     if walk.test.passes(asker, n, walk.from) {
-        nodes.push(Node {
+        nodes.push(PackedNode::of(&Node {
             state: *walk.from,
             seconds: 0,
             parent: 0,
             action: Action::BasicSynthesis,
-        })?;
+        }))?;
     }
     Ok(nodes)
 }
 
 // What the workers found, one after another.
-fn gather<A>(alloc: Global, walkers: &[Walker<A>]) -> Result<Vec<Node>, WantMemory>
+fn gather<A>(alloc: Global, walkers: &[Walker<A>]) -> Result<Vec<PackedNode>, WantMemory>
     ensures nodes { IfOk result (λ v. v.items ≡ flat_map (λ w. nodes_in w.found) walkers.now) }
     ensures whole { IfOk result (λ _. All (λ w. IsOk w.found) walkers.now) }
 {

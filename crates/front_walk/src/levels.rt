@@ -1,8 +1,8 @@
 // The levels of a walk.
-ghost use Rattle.std.specs.Prelude.{◌≡◌, ◌≤◌, ◌-◌, IfOk, All, map};
+ghost use Rattle.std.specs.Prelude.{◌≡◌, ◌≤◌, ◌-◌, IfOk, IsTrue, All, map};
 ghost use Rattle.pareto_front.specs.Covers.{uncovered};
 ghost use Rattle.front_walk.specs.Asking.{AllMayAsk, AllStillAsk};
-ghost use Rattle.front_walk.specs.Nodes.{AreLinks, AreSizes, IsLevel, IsNode, goes_and_passes, nodes_by};
+ghost use Rattle.front_walk.specs.Nodes.{AreLinks, IsLevel, IsNode, goes_and_passes, link_of, nodes_by};
 
 use crate::expanding::{expand, first_level};
 use crate::links::{Link, links_of};
@@ -10,7 +10,7 @@ use crate::state_test::StateTest;
 use crate::walk::{Stage, Walk};
 use crate::walker::Walker;
 use action_table::WantMemory;
-use pareto_front::{Node, prune};
+use pareto_front::{PackedNode, prune_packed};
 use std::alloc::Global;
 use std::thread::Threads;
 use worker_gate::{Crew, Gate};
@@ -20,23 +20,24 @@ use worker_gate::{Crew, Gate};
 #[derive(Drop)]
 pub(crate) struct Levels {
     pub(crate) links: Vec<Vec<Link>>,
-    pub(crate) last: Vec<Node>,
+    pub(crate) last: Vec<PackedNode>,
     pub(crate) sizes: Vec<u64>,
 }
 
-/// The levels below `n`.
+/// The levels below `n`. Their ways back are there where they are to be kept.
 pub(crate) fn levels_below<T: StateTest, R: Threads + Sync, G: Gate>(
     crew: &mut Crew<'_, R, G, Walker<T::Asker>>,
     alloc: Global,
     walk: &Walk<'_, T>,
     n: u32,
+    keeps_ways: bool,
 ) -> Result<Levels, WantMemory>
     requires some { 1 ≤ n }
     requires askers { AllMayAsk (T.may_ask walk.now.test.now) crew.old.workers }
     ensures askers { AllMayAsk (T.may_ask walk.now.test.now) crew.new.workers }
     ensures still { AllStillAsk T.still_asks crew.old.workers crew.new.workers }
     ensures links { let w = walk.now in
-        IfOk result (λ r. AreLinks w.g.now w.from.now (T.passes w.test.now) n (n - 1) (map (λ v. v.items) r.links.items)) }
+        IfOk result (λ r. IsTrue keeps_ways → AreLinks w.g.now w.from.now (T.passes w.test.now) n (n - 1) (map (λ v. v.items) r.links.items)) }
     ensures level { let w = walk.now in
         IfOk result (λ r. IsLevel w.g.now w.from.now (T.passes w.test.now) n (n - 1) r.last.items r.sizes.items) }
 {
@@ -46,36 +47,22 @@ pub(crate) fn levels_below<T: StateTest, R: Threads + Sync, G: Gate>(
     sizes.push(last.len() as u64)?;
     for k in 1..n {
         let next = next_level(crew, alloc, walk, n - k, &last)?;
-        links.push(links_of(alloc, &last)?)?;
+        links.push(ways_of(alloc, &last, keeps_ways)?)?;
         sizes.push(next.len() as u64)?;
         last = next;
     }
     Ok(Levels { links, last, sizes })
 }
 
-/// How many nodes there are in each level below `n`.
-pub(crate) fn sizes_of<T: StateTest, R: Threads + Sync, G: Gate>(
-    crew: &mut Crew<'_, R, G, Walker<T::Asker>>,
-    alloc: Global,
-    walk: &Walk<'_, T>,
-    n: u32,
-) -> Result<Vec<u64>, WantMemory>
-    requires some { 1 ≤ n }
-    requires askers { AllMayAsk (T.may_ask walk.now.test.now) crew.old.workers }
-    ensures askers { AllMayAsk (T.may_ask walk.now.test.now) crew.new.workers }
-    ensures still { AllStillAsk T.still_asks crew.old.workers crew.new.workers }
-    ensures sizes { let w = walk.now in
-        IfOk result (λ sizes. AreSizes w.g.now w.from.now (T.passes w.test.now) n n sizes.items) }
+// The ways back from the nodes of a level, or nothing.
+fn ways_of(alloc: Global, level: &[PackedNode], keeps_ways: bool) -> Result<Vec<Link>, WantMemory>
+    ensures { IfOk result (λ links. IsTrue keeps_ways → links.items ≡ map link_of level.now) }
 {
-    let mut last = first_level(crew, alloc, walk, n)?;
-    let mut sizes = Vec::new(alloc);
-    sizes.push(last.len() as u64)?;
-    for k in 1..n {
-        let next = next_level(crew, alloc, walk, n - k, &last)?;
-        sizes.push(next.len() as u64)?;
-        last = next;
+    if keeps_ways {
+        links_of(alloc, level)
+    } else {
+        Ok(Vec::new(alloc))
     }
-    Ok(sizes)
 }
 
 // The children of a level that go on and pass, and that no other of them covers.
@@ -84,8 +71,8 @@ fn next_level<T: StateTest, R: Threads + Sync, G: Gate>(
     alloc: Global,
     walk: &Walk<'_, T>,
     left: u32,
-    nodes: &[Node],
-) -> Result<Vec<Node>, WantMemory>
+    nodes: &[PackedNode],
+) -> Result<Vec<PackedNode>, WantMemory>
     requires askers { AllMayAsk (T.may_ask walk.now.test.now) crew.old.workers }
     requires nodes { All (IsNode walk.now.g.now (T.allows walk.now.test.now)) nodes.now }
     ensures askers { AllMayAsk (T.may_ask walk.now.test.now) crew.new.workers }
@@ -98,5 +85,5 @@ fn next_level<T: StateTest, R: Threads + Sync, G: Gate>(
     }
     let stage = Stage { walk, left, nodes };
     let children = expand(crew, alloc, &stage)?;
-    prune(crew.rt(), alloc, children)
+    prune_packed(crew.rt(), alloc, children)
 }

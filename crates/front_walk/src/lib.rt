@@ -20,7 +20,7 @@ mod walker;
 
 use action_table::{Action, WantMemory};
 use endings::{endings, soonest};
-use levels::{Levels, levels_below, sizes_of};
+use levels::{Levels, levels_below};
 use links::{climb, link_of, links_of};
 pub use state_test::StateTest;
 use std::alloc::Global;
@@ -56,7 +56,7 @@ pub fn best_of<T: StateTest, R: Threads + Sync, G: Gate>(
     ensures sizes { let w = walk.now in
         IfOk result (λ r. IfSome r (λ c. c.sizes.items ≡ sizes_below w.g.now w.from.now (T.passes w.test.now) n)) }
 {
-    let levels = levels_below(crew, alloc, walk, n)?;
+    let levels = levels_below(crew, alloc, walk, n, true)?;
     last_step(alloc, walk, n, levels)
 }
 
@@ -76,7 +76,8 @@ pub fn sizes<T: StateTest, R: Threads + Sync, G: Gate>(
     ensures sizes { let w = walk.now in
         IfOk result (λ v. v.items ≡ sizes_below w.g.now w.from.now (T.passes w.test.now) n) }
 {
-    sizes_of(crew, alloc, walk, n)
+    let Levels { sizes, .. } = levels_below(crew, alloc, walk, n, false)?;
+    Ok(sizes)
 }
 
 // The best completion that the last level leads to, if there is one.

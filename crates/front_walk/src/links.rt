@@ -3,7 +3,7 @@ ghost use Rattle.std.specs.Prelude.{◌≡◌, ◌≤◌, IfOk, map, length};
 ghost use Rattle.front_walk.specs.Nodes.{link_of, actions_to, Climbs};
 
 use action_table::{Action, WantMemory};
-use pareto_front::Node;
+use pareto_front::{Node, PackedNode};
 use std::alloc::Global;
 
 /// What is kept of a node of an earlier level: the place of its parent in the level before, and the action that led
@@ -24,11 +24,18 @@ pub(crate) fn link_of(node: &Node) -> Link
     }
 }
 
+// The way back from a node in little room.
+fn way_of(node: &PackedNode) -> Link
+    ensures { result ≡ link_of node.now }
+{
+    link_of(&node.node())
+}
+
 /// The ways back from the nodes of a level.
-pub(crate) fn links_of(alloc: Global, level: &[Node]) -> Result<Vec<Link>, WantMemory>
+pub(crate) fn links_of(alloc: Global, level: &[PackedNode]) -> Result<Vec<Link>, WantMemory>
     ensures { IfOk result (λ links. links.items ≡ map link_of level.now) }
 {
-    Ok(level.iter().map(link_of).collect(alloc)?)
+    Ok(level.iter().map(way_of).collect(alloc)?)
 }
 
 /// The actions that lead to a link of level `k`.

@@ -7,7 +7,7 @@ ghost use Rattle.front_walk.specs.Nodes.{IsNode};
 use crate::state_test::StateTest;
 use craft_settings::Settings;
 use craft_state::State;
-use pareto_front::Node;
+use pareto_front::PackedNode;
 
 /// A craft, a state of it that isn't over, the quality that the completions from there are to have, and a test that
 /// keeps each state that can still lead to it.
@@ -28,6 +28,6 @@ pub struct Walk<'a, T: StateTest> {
 pub(crate) struct Stage<'a, T: StateTest> {
     pub(crate) walk: &'a Walk<'a, T>,
     pub(crate) left: u32,
-    pub(crate) nodes: &'a [Node],
+    pub(crate) nodes: &'a [PackedNode],
     ghost all: { All (IsNode walk.now.g.now (T.allows walk.now.test.now)) nodes.now },
 }

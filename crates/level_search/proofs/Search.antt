@@ -1,5 +1,5 @@
 -- What is known of the best macro.
-use Rattle.std.proofs.Common.{◌≡◌, ◌∙◌, sym, refl, ℕ, ◌-◌, ◌/◌, ◌<◌, ◌≤◌, Bool, true, ◌||◌, ◌&&◌, ◌==◌, nat_lt, inl, inr, List, Some, None, length, length-drop, take, drop, arith, ap, subst, if◌then◌else◌}
+use Rattle.std.proofs.Common.{◌≡◌, ◌∙◌, sym, refl, ℕ, ◌-◌, ◌/◌, ◌≤◌, Bool, true, ◌||◌, ◌&&◌, ◌==◌, nat_lt, inl, inr, List, Some, None, length, length-drop, take, drop, arith, ap, subst, if◌then◌else◌}
 use Rattle.std.proofs.lemmas.Bool.Decides.{nat_tests}
 use Rattle.std.proofs.lemmas.List.{take-append-drop}
 use Rattle.plain_lemmas.proofs.Lists.{Among, Among-filter, filter-Among}
@@ -15,7 +15,7 @@ use Rattle.step_rules.specs.Run.{run_of}
 use Rattle.step_rules.proofs.Runs.{run_of-append}
 use Rattle.macro_order.specs.declared.scores.Score.{Score}
 use Rattle.macro_order.specs.Order.{precedes, scored, score_of, seconds_of, IsBest}
-use Rattle.prefix_fronts.specs.Prefix.{Prefix, Test, front, prefixes, survivors, undominated, IsGreatest, IsReachedFrom}
+use Rattle.prefix_fronts.specs.Prefix.{Prefix, Test, front, prefixes, undominated, IsGreatest, IsReachedFrom}
 use Rattle.prefix_fronts.proofs.Best.{reached-at, reached-start, score-says}
 use Rattle.prefix_fronts.proofs.Dominated.{best-survives}
 use Rattle.prefix_fronts.proofs.Members.{prefix-facts, start-open}

@@ -1,5 +1,5 @@
 -- What the searchers keep.
-use Rattle.std.proofs.Common.{◌≡◌, ◌∙◌, sym, ℕ, zero, suc, ◌<◌, ◌≤◌, List, [], ◌∷◌, length, get_or, set, map, arith, ap, subst}
+use Rattle.std.proofs.Common.{◌≡◌, ◌∙◌, sym, zero, suc, List, [], ◌∷◌, length, get_or, set, map, arith, ap, subst}
 use Rattle.std.specs.List.{All, AllZip}
 use Rattle.std.proofs.Math.ListN.{get_or-map}
 use Rattle.std.proofs.lemmas.List.{length-map}

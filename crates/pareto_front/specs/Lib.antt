@@ -3,4 +3,5 @@ pub mod Covers
 pub mod Kept
 pub mod Keys
 pub mod Lists
+pub mod Packed
 pub mod Parts

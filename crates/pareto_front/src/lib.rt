@@ -7,6 +7,7 @@ ghost use Rattle.pareto_front.specs.Lists.{items_of};
 ghost use Rattle.pareto_front.specs.Parts.{AreMarked, AreMarks, marked_of};
 
 mod columns;
+mod compact;
 mod kept;
 mod key;
 pub mod laws;
@@ -19,6 +20,7 @@ mod tests;
 
 use action_table::WantMemory;
 pub use columns::Columns;
+pub use compact::PackedNode;
 pub use kept::Kept;
 pub use node::Node;
 use parts::divide;
@@ -34,6 +36,42 @@ pub fn prune(
     alloc: Global,
     level: Vec<Node>,
 ) -> Result<Vec<Node>, WantMemory>
+    ensures { IfOk result (λ kept. kept.items ≡ uncovered level.items) }
+{
+    let packed = pack_all(alloc, &level)?;
+    drop(level);
+    let kept = prune_packed(rt, alloc, packed)?;
+    unpack_all(alloc, &kept)
+}
+
+// The nodes of a level in little room.
+fn pack_all(alloc: Global, level: &[Node]) -> Result<Vec<PackedNode>, WantMemory>
+    ensures { IfOk result (λ packed. packed.items ≡ level.now) }
+{
+    let mut packed = Vec::new(alloc);
+    for node in level {
+        packed.push(PackedNode::of(node))?;
+    }
+    Ok(packed)
+}
+
+// The nodes that stand in little room.
+fn unpack_all(alloc: Global, packed: &[PackedNode]) -> Result<Vec<Node>, WantMemory>
+    ensures { IfOk result (λ level. level.items ≡ packed.now) }
+{
+    let mut level = Vec::new(alloc);
+    for node in packed {
+        level.push(node.node())?;
+    }
+    Ok(level)
+}
+
+/// The same of nodes in little room: those of a level that no node of it covers, in order.
+pub fn prune_packed(
+    rt: &(impl Threads + Sync),
+    alloc: Global,
+    level: Vec<PackedNode>,
+) -> Result<Vec<PackedNode>, WantMemory>
     ensures { IfOk result (λ kept. kept.items ≡ uncovered level.items) }
 {
     let parts = divide(alloc, &level)?;
@@ -67,7 +105,7 @@ fn mark(marks: &mut [bool], places: &[usize])
 }
 
 // Leaves the nodes that are marked, and gives the rest of the memory back.
-fn keep_marked(level: &mut Vec<Node>, marks: &[bool])
+fn keep_marked(level: &mut Vec<PackedNode>, marks: &[bool])
     requires { length marks.now ≡ length level.old.items }
     ensures { level.new.items ≡ marked_of marks.now level.old.items }
 {

@@ -3,7 +3,7 @@ ghost use Rattle.craft_state.specs.Craft.{AreEffects};
 ghost use Rattle.pareto_front.specs.Lists.{items_of};
 ghost use Rattle.pareto_front.specs.Parts.{AreParts, entry_of, part_of};
 
-use crate::Node;
+use crate::compact::PackedNode;
 use crate::key::key_of;
 use crate::numbers::Numbers;
 use action_table::WantMemory;
@@ -25,7 +25,7 @@ const PART: usize = 16384;
 const SPREAD: u64 = 0x9E37_79B9_7F4A_7C15;
 
 /// The entries of the nodes of a level in parts. All entries with one key are in one part.
-pub(crate) fn divide(alloc: Global, level: &[Node]) -> Result<Vec<Vec<Entry>>, WantMemory>
+pub(crate) fn divide(alloc: Global, level: &[PackedNode]) -> Result<Vec<Vec<Entry>>, WantMemory>
     ensures { IfOk result (λ parts. AreParts level.now (length level.now) (items_of parts.items)) }
 {
     let count = level.len() / PART + 1;
@@ -70,10 +70,11 @@ fn part_of(key: u64, count: usize) -> usize
 }
 
 // What a node at a place is compared by.
-fn entry_of(place: usize, node: &Node) -> Entry
+fn entry_of(place: usize, node: &PackedNode) -> Entry
     ensures value { result ≡ entry_of place node.now }
     ensures bounds { AreEffects node.now.state.effects }
 {
+    let node = node.node();
     Entry {
         key: key_of(&node.state),
         place,

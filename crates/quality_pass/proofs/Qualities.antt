@@ -1,8 +1,7 @@
 -- What is known of the greatest quality, and of the limits on the way to a macro's own.
-use Rattle.std.proofs.Common.{◌≡◌, ◌∙◌, sym, ℕ, ◌≤◌, Bool, inl, inr, List, Option, Some, None, if◌then◌else◌, arith, subst, ap, length, length-drop, take, drop}
+use Rattle.std.proofs.Common.{◌≡◌, ◌∙◌, sym, ℕ, ◌≤◌, Bool, inl, inr, Option, Some, None, if◌then◌else◌, arith, subst, ap, length, length-drop, take, drop}
 use Rattle.std.proofs.lemmas.List.{length-take-le, take-append-drop}
 use Rattle.plain_lemmas.proofs.Tests.{bool_cases}
-use Rattle.action_table.specs.declared.action.Action.{Action}
 use Rattle.craft_settings.specs.Ranges.{SettingsFields, AreSettings}
 use Rattle.step_rules.specs.Legality.{start_of, is_over}
 use Rattle.step_rules.specs.Macro.{counted, IsReached}

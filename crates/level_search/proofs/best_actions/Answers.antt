@@ -1,6 +1,6 @@
 use Rattle.std.proofs.Common.{sym, subst}
 use Rattle.craft_state.specs.Craft.{StateFields}
-use Rattle.prefix_fronts.specs.Prefix.{IsOpen, IsGreatestFrom, IsReachedFrom}
+use Rattle.prefix_fronts.specs.Prefix.{IsOpen, IsReachedFrom}
 use Rattle.prefix_fronts.proofs.Best.{reached-start}
 use Rattle.prefix_fronts.proofs.Members.{start-open}
 use Rattle.level_search.proofs.Crafts.{aim-settings}

@@ -1,17 +1,15 @@
-use Rattle.std.proofs.Common.{◌≡◌, ◌∙◌, ◌≤◌, sym, List, All, map, length, arith, ap, subst}
+use Rattle.std.proofs.Common.{◌≡◌, ◌∙◌, ◌≤◌, sym, List, All, map, arith, ap, subst}
 use Rattle.std.proofs.Math.ListN.{length-set}
 use Rattle.std.proofs.lemmas.List.Elements.{All-set}
 use Rattle.std.proofs.lemmas.Slice.Zip.{AllZip-long}
 use Rattle.action_table.specs.declared.action.Action.{Action}
 use Rattle.craft_settings.specs.Ranges.{AreSettings}
-use Rattle.step_rules.specs.Legality.{start_of}
-use Rattle.step_rules.specs.Macro.{Completes}
 use Rattle.step_rules.proofs.MeasureFalls.{measure-start}
 use Rattle.front_walk.specs.declared.walker.Walker.{Walker}
 use Rattle.front_walk.specs.Asking.{AllMayAsk, AllStillAsk}
 use Rattle.level_search.specs.declared.searcher.Searcher.{Searcher}
 use Rattle.level_search.specs.Searching.{HasSeenWay, IsSearcherOf, StillSearches}
-use Rattle.level_search.proofs.Search.{completes-best, inside-best, length-best, quality-best, shortest-best}
+use Rattle.level_search.proofs.Search.{inside-best, length-best, quality-best, shortest-best}
 use Rattle.level_search.proofs.Stills.{all_later, first_later, hired, released, still_back}
 use Rattle.level_search.proofs.Ways.{seen-first, within-limits}
 use Rattle.level_search.proofs.best_macro.Goals as goal

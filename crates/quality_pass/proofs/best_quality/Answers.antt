@@ -5,7 +5,7 @@ use Rattle.relaxed_moves.specs.Budget.{start_potential_of}
 use Rattle.seat_tables.specs.Seats.{SeatFields}
 use Rattle.quality_bound.specs.declared.truth.QualityTruth.{QualityTruth}
 use Rattle.quality_pass.specs.Answer.{AllStillSee, AllSeeBudgets, last_filled}
-use Rattle.quality_pass.proofs.Qualities.{from-start, limited}
+use Rattle.quality_pass.proofs.Qualities.{limited}
 use Rattle.quality_pass.proofs.Seats.{all_budgets-still, seats_still-trans}
 use Rattle.quality_pass.proofs.best_quality.Goals as goal
 

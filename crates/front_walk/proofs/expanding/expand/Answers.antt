@@ -4,7 +4,7 @@ use Rattle.worker_gate.specs.Cut.{cut}
 use Rattle.front_walk.specs.declared.walker.Walker.{Walker}
 use Rattle.front_walk.specs.Asking.{nodes_in}
 use Rattle.front_walk.specs.Nodes.{goes_and_passes, nodes_upto}
-use Rattle.front_walk.proofs.Joined.{all-still, expanded, if_ok, still-asking}
+use Rattle.front_walk.proofs.Joined.{alike-may, alike-still, expanded, if_ok, still-asking}
 use Rattle.front_walk.proofs.expanding.expand.Goals as goal
 
 pub returns-clause-askers : goal.returns-clause-askers
@@ -12,16 +12,18 @@ returns-clause-askers g c =
     let w = c.args.stage.now.walk.now in
     let test = goes_and_passes w.g.now (g.T.StateTest.passes w.test.now) c.args.stage.now.left in
     let nodes = c.args.stage.now.nodes.now in
-    still-asking _ _ (λ k. nodes_upto w.g.now test nodes (cut (length nodes) (length c.args.crew.now.workers) k)) c.args.crew.now.workers _
-    (record { as_many = c.expand_ranges.ensures.as_many; each = c.expand_ranges.ensures.found })
+    alike-may (g.T.StateTest.may_ask w.test.now) c.expand_ranges.new.crew.workers c.let_go.new.crew.workers (record { as_many = c.let_go.ensures.as_many; each = c.let_go.ensures.asker })
+    (still-asking (g.T.StateTest.may_ask w.test.now) g.T.StateTest.still_asks (λ k. nodes_upto w.g.now test nodes (cut (length nodes) (length c.args.crew.now.workers) k)) c.args.crew.now.workers c.expand_ranges.new.crew.workers
+    (record { as_many = c.expand_ranges.ensures.as_many; each = c.expand_ranges.ensures.found }))
 
 pub returns-clause-still : goal.returns-clause-still
 returns-clause-still g c =
     let w = c.args.stage.now.walk.now in
     let test = goes_and_passes w.g.now (g.T.StateTest.passes w.test.now) c.args.stage.now.left in
     let nodes = c.args.stage.now.nodes.now in
-    all-still _ _ (λ k. nodes_upto w.g.now test nodes (cut (length nodes) (length c.args.crew.now.workers) k)) c.args.crew.now.workers _
-    (record { as_many = c.expand_ranges.ensures.as_many; each = c.expand_ranges.ensures.found })
+    alike-still (g.T.StateTest.may_ask w.test.now) g.T.StateTest.still_asks (λ k. nodes_upto w.g.now test nodes (cut (length nodes) (length c.args.crew.now.workers) k)) c.args.crew.now.workers
+    c.expand_ranges.new.crew.workers c.let_go.new.crew.workers (record { as_many = c.expand_ranges.ensures.as_many; each = c.expand_ranges.ensures.found })
+    (record { as_many = c.let_go.ensures.as_many; each = c.let_go.ensures.asker })
 
 pub returns-clause-children : goal.returns-clause-children
 returns-clause-children g c =
@@ -29,7 +31,7 @@ returns-clause-children g c =
     let test = goes_and_passes w.g.now (g.T.StateTest.passes w.test.now) c.args.stage.now.left in
     let nodes = c.args.stage.now.nodes.now in
     let same = c.workers.ensures.workers in
-    if_ok c.gather.result _ _ _ c.gather.ensures.nodes c.gather.ensures.whole (λ v are whole.
+    if_ok c.gather-children.result _ _ _ c.gather-children.ensures.nodes c.gather-children.ensures.whole (λ v are whole.
     are ∙ ap (flat_map (λ (w : Walker _). nodes_in w.found)) same
     ∙ expanded _ _ w.g.now test nodes c.args.crew.now.workers c.expand_ranges.new.crew.workers (subst (λ (l : List (Walker _)). 1 ≤ length l) same c.workers.ensures.low)
     (record { as_many = c.expand_ranges.ensures.as_many; each = c.expand_ranges.ensures.found }) (subst (λ (l : List (Walker _)). All (λ w. IsOk w.found) l) same whole))

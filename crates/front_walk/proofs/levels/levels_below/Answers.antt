@@ -15,7 +15,7 @@ loop-k-init g c =
     record {
       askers = c.in_ok-last.ensures.askers;
       still = c.in_ok-last.ensures.still;
-      links = links-start w.g.now w.from.now passes c.args.n c.new-links.result.items c.new-links.ensures.items;
+      links = λ kept. links-start w.g.now w.from.now passes c.args.n c.new-links.result.items c.new-links.ensures.items;
       level = level-start w.g.now w.from.now passes c.args.n c.in_ok-last.last.items c.push.new.self.items c.len.result c.in_ok-last.ensures.nodes size
           (c.in_ok-push.ensures.items ∙ ap (λ (l : List ℕ). l ++ c.len.result ∷ []) c.new-sizes.ensures.items);
     }
@@ -40,8 +40,8 @@ loop-k-preserved g c =
     record {
       askers = c.in_ok-next.ensures.askers;
       still = stills-later _ laws.later_asks _ _ _ c.loop-k.invariant.still c.in_ok-next.ensures.still;
-      links = rw down (links-next w.g.now w.from.now passes c.args.n k c.loop-k.links.items c.push-in-loop-k.new.self.items c.loop-k.last.items c.in_ok-links_of.field-0 some
-          c.loop-k.invariant.links c.loop-k.invariant.level.nodes_are (c.in_ok-links_of.ensures ∙ ap (map link_of) c.deref-in-loop-k.ensures.value) c.in_ok-push-2.ensures.items);
+      links = λ kept. rw down (links-next w.g.now w.from.now passes c.args.n k c.loop-k.links.items c.push-in-loop-k.new.self.items c.loop-k.last.items c.in_ok-ways_of.field-0 some
+          (c.loop-k.invariant.links kept) c.loop-k.invariant.level.nodes_are (c.in_ok-ways_of.ensures kept ∙ ap (map link_of) c.deref-in-loop-k.ensures.value) c.in_ok-push-2.ensures.items);
       level = rw down (level-next w.g.now w.from.now passes c.args.n k c.loop-k.last.items c.in_ok-next.next.items c.loop-k.sizes.items c.push-in-loop-k-2.new.self.items c.len-in-loop-k.result some
           c.loop-k.invariant.level
           (c.in_ok-next.ensures.kept ∙ ap (λ (l : List Node). uncovered (nodes_by w.g.now (goes_and_passes w.g.now passes (c.args.n - k)) l)) c.deref.ensures.value)
@@ -53,8 +53,8 @@ returns-in_err-next-clause-still g c =
     let laws = g.met.T.StateTest g.world.𝓛 g.world.𝓜 g.world.𝓡 ((λ s x. x), (λ x. x), (λ x. x), λ x. x) in
     stills-later _ laws.later_asks _ _ _ c.loop-k.invariant.still c.in_err-next.ensures.still
 
-pub returns-in_err-links_of-clause-still : goal.returns-in_err-links_of-clause-still
-returns-in_err-links_of-clause-still g c =
+pub returns-in_err-ways_of-clause-still : goal.returns-in_err-ways_of-clause-still
+returns-in_err-ways_of-clause-still g c =
     let laws = g.met.T.StateTest g.world.𝓛 g.world.𝓜 g.world.𝓡 ((λ s x. x), (λ x. x), (λ x. x), λ x. x) in
     stills-later _ laws.later_asks _ _ _ c.loop-k.invariant.still c.in_ok-next.ensures.still
 

@@ -6,7 +6,7 @@ use Rattle.pareto_front.specs.declared.parts.Entry.{Entry}
 use Rattle.pareto_front.specs.Lists.{items_of}
 use Rattle.pareto_front.specs.Parts.{AreParts, AreMarks, Keeps, marked_of}
 use Rattle.pareto_front.proofs.Merge.{KeepsAll, keeps-items, marked-uncovered}
-use Rattle.pareto_front.proofs.prune.Goals as goal
+use Rattle.pareto_front.proofs.prune_packed.Goals as goal
 
 pub returns : goal.returns
 returns g c =
