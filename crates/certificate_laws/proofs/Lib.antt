@@ -1,5 +1,6 @@
 pub mod Example
 pub mod Faults
+pub mod Made
 pub mod Once
 pub mod Reading
 pub mod Rows

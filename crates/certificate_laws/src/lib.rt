@@ -4,11 +4,12 @@
 
 ghost use Rattle.std.specs.Prelude.{ℕ, List, ◌≡◌};
 ghost use Rattle.action_table.specs.declared.action.Action.{Action};
-ghost use Rattle.craft_settings.specs.Ranges.{SettingsFields, AreSettings};
+ghost use Rattle.craft_settings.specs.Ranges.{SettingsFields, AreSettings, IsFromTo};
 ghost use Rattle.macro_order.specs.Order.{IsBest};
 ghost use Rattle.certificate_text.specs.Text.{line_end, parts};
 ghost use Rattle.certificate_laws.specs.Certificate.{IsCertificate, certificates_are_sound};
 ghost use Rattle.certificate_laws.specs.Lines.{opening, Reads, IsFirstFault};
+ghost use Rattle.certificate_laws.specs.Made.{IsMade};
 ghost use Rattle.certificate_laws.specs.Example.{small_craft, small_best, small_text};
 ghost use Rattle.certificate_laws.specs.Example.{limited_text, late_text, dominated_text, worse_text, short_text, unended_text};
 
@@ -35,6 +36,14 @@ pub fn once_law()
         IsFirstFault g bytes m → IsFirstFault g bytes n → m ≡ n }
     ensures apart { (g : SettingsFields) (bytes : List ℕ) (m : List Action) (n : ℕ) →
         IsCertificate g bytes m → IsFirstFault g bytes n → ⊥ }
+{}
+
+/// The certificate that is made for the best macro is one, and there is one text of it at most.
+pub fn made_law()
+    ensures certificate { (g : SettingsFields) (grain : ℕ) (actions : List Action) (bytes : List ℕ) →
+        AreSettings g → IsFromTo 1 64 grain → IsBest g actions → IsMade g grain actions bytes → IsCertificate g bytes actions }
+    ensures one { (g : SettingsFields) (grain : ℕ) (actions : List Action) (a b : List ℕ) →
+        IsMade g grain actions a → IsMade g grain actions b → a ≡ b }
 {}
 
 /// A small craft has a certificate, and each of these texts breaks a rule first at this line.

@@ -1,18 +1,19 @@
 // Verdicts.
 
-/// What a certificate says of one legal action after a kept prefix.
+/// What a certificate says of one legal action after a kept prefix, that is, of the prefix that ends with it.
 #[derive(Clone, Copy, PartialEq, Eq, Debug)]
 pub enum Verdict {
-    /// It completes the craft, no better than the macro.
+    /// It completes the craft: it is the macro, or the macro is better.
     Complete,
     /// It ends the craft without completing it.
     Failed,
-    /// Its limit is below the macro's quality.
+    /// The craft goes on, and it has no limit, or one below the macro's quality.
     Limited,
-    /// Its limit is no more than the macro's quality, and it needs more steps than the macro.
+    /// The craft goes on, and it has no limit, or one that is at most the macro's quality; and it has as many steps as the
+    /// macro or more, or within those that are left of the macro's it has no limit, or one below the macro's quality.
     Late,
-    /// The kept prefix at this place of the next level dominates it.
+    /// The craft goes on, and the kept prefix at this place of the next level, counted from 0, dominates it.
     Dominated { place: u32 },
-    /// It is the next kept prefix of the next level.
+    /// The craft goes on, and it is the next kept prefix of the next level.
     Kept,
 }

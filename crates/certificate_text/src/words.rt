@@ -49,7 +49,7 @@ pub fn read_row(
     ensures { IfOk result (λ row.
         MatchOption row (IsNoRow line.now count) (λ verdicts. IsReadRow line.now count verdicts.items)) }
 {
-    let mut row = Vec::new(alloc);
+    let mut row = Vec::with_capacity(alloc, count)?;
     if count == 0 {
         return Ok(if line.is_empty() { Some(row) } else { None });
     }

@@ -6,6 +6,7 @@ use Rattle.craft_settings.specs.Ranges.{SettingsFields}
 use Rattle.relaxed_moves.specs.Budget.{potential_of, start_potential_of}
 use Rattle.step_rules.specs.Legality.{start_of, IsWithin}
 use Rattle.step_rules.specs.Run.{run_of}
+use Rattle.step_rules.specs.declared.legality.TheConstants.{MOST_STEPS}
 use Rattle.macro_order.specs.Order.{seconds_of, score_of}
 use Rattle.prefix_fronts.specs.Prefix.{Prefix, extend}
 use Rattle.certificate_text.specs.declared.verdict.Verdict.{Verdict}
@@ -56,7 +57,7 @@ pub record IsBegun (g : SettingsFields) (p : Prefix) : Type 0 where
   pub within : IsWithin g p.state
   pub ran : run_of g (start_of g) p.actions ≡ Some p.state
   pub seconds : p.seconds ≡ seconds_of p.actions
-  pub short : length p.actions ≤ 272
+  pub short : length p.actions ≤ MOST_STEPS
 
 -- the line is a row whose verdicts hold
 abbrev pub RowObeys : Claim → List Prefix → Prefix → List ℕ → Type 0

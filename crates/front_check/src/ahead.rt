@@ -63,7 +63,7 @@ fn push_row(
     match found {
         Some(row) => {
             let verdicts = row.as_slice();
-            push_kept(next, alloc, g, p, listed, verdicts)?;
+            push_kept(next, g, p, listed, verdicts)?;
             Ok(true)
         }
         None => Ok(false),
@@ -73,7 +73,6 @@ fn push_row(
 // Appends the prefixes that a row keeps.
 fn push_kept(
     next: &mut Vec<Kept>,
-    alloc: Global,
     g: &Settings,
     p: &Kept,
     actions: &[Action],
@@ -85,7 +84,7 @@ fn push_kept(
     ensures { OnOk result (next.new.items ≡ next.old.items ++ kept_of g.now p.now actions.now row.now) }
 {
     for place in 0..actions.len() {
-        push_child(next, alloc, g, p, actions[place], row[place])?;
+        push_child(next, g, p, actions[place], row[place])?;
     }
     Ok(())
 }
@@ -93,7 +92,6 @@ fn push_kept(
 // Appends the prefix with one action more, if its verdict keeps it.
 fn push_child(
     next: &mut Vec<Kept>,
-    alloc: Global,
     g: &Settings,
     p: &Kept,
     action: Action,
@@ -104,6 +102,7 @@ fn push_child(
     ensures { OnOk result (next.new.items ≡ next.old.items ++ kept_child g.now p.now action verdict) }
 {
     if let Verdict::Kept = verdict {
+        let alloc = *next.allocator();
         let child = p.extended(alloc, g, action)?;
         next.push(child)?;
     }

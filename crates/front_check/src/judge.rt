@@ -17,14 +17,14 @@ use macro_order::{Score, better, is_before};
 use std::alloc::Global;
 use step_rules::is_final;
 
-/// What a certificate is about, and where its checker takes memory.
+/// What a certificate is about, and where memory is taken.
 #[derive(Drop)]
-pub(crate) struct Claimed<'a> {
-    pub(crate) alloc: Global,
-    pub(crate) g: &'a Settings,
-    pub(crate) grain: u32,
-    pub(crate) actions: &'a [Action],
-    pub(crate) score: Score,
+pub struct Claimed<'a> {
+    pub alloc: Global,
+    pub g: &'a Settings,
+    pub grain: u32,
+    pub actions: &'a [Action],
+    pub score: Score,
 }
 
 /// Whether a prefix completes the craft, no better than the macro.
@@ -95,7 +95,7 @@ pub(crate) fn is_dominated(claimed: &Claimed<'_>, next: &[Kept], p: &Kept, place
 }
 
 /// Whether a limit is none, or less than a quality.
-pub(crate) fn is_below(limit: Option<u32>, quality: u32) -> bool
+pub fn is_below(limit: Option<u32>, quality: u32) -> bool
     ensures { IsTrue result ↔ IsBelow limit quality }
 {
     match limit {
@@ -105,7 +105,7 @@ pub(crate) fn is_below(limit: Option<u32>, quality: u32) -> bool
 }
 
 /// Whether a limit is none, or at most a quality.
-pub(crate) fn is_at_most(limit: Option<u32>, quality: u32) -> bool
+pub fn is_at_most(limit: Option<u32>, quality: u32) -> bool
     ensures { IsTrue result ↔ option_le limit (Some quality) }
 {
     match limit {
@@ -180,9 +180,9 @@ impl Kept {
     }
 }
 
-// Whether the first of two states isn't less than the second.
+/// Whether the first of two states isn't less than the second.
 #[tactic(auto, unfolding(craft_state::specs::NotLess::is_not_less, craft_state::specs::NotLess::same_effects))]
-fn covers(a: &State, b: &State) -> bool
+pub fn covers(a: &State, b: &State) -> bool
     ensures { result ≡ is_not_less a.now b.now }
 {
     a.progress == b.progress

@@ -17,3 +17,7 @@ mod tables;
 mod tests;
 
 pub use checker::{CertFault, verify};
+pub use judge::{Claimed, covers, is_at_most, is_below};
+pub use limits::Limits;
+pub use naming::print_best;
+pub use tables::Tables;

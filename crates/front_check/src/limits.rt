@@ -5,7 +5,7 @@ use craft_state::State;
 use std::alloc::Global;
 
 /// The two limits of the states of a craft, at a grain.
-pub(crate) trait Limits: Drop {
+pub trait Limits: Drop {
     ghost use Rattle.std.specs.Prelude.{◌≡◌, ◌≤◌, ℕ, IfOk};
     ghost use Rattle.craft_settings.specs.Ranges.{AreSettings};
     ghost use Rattle.relaxed_moves.specs.Optimum.{limit_of, within_of};

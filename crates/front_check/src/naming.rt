@@ -59,8 +59,8 @@ pub(crate) fn read_best(alloc: Global, line: &[u8]) -> Result<Option<Vec<Action>
     }
 }
 
-// The line that names a macro.
-fn print_best(alloc: Global, actions: &[Action]) -> Result<String, AllocError>
+/// The line that names a macro, without its end.
+pub fn print_best(alloc: Global, actions: &[Action]) -> Result<String, AllocError>
     ensures { IfOk result (λ text. string_bytes text ≡ best_line actions.now) }
 {
     let mut text = String::new(alloc);

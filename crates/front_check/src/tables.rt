@@ -12,7 +12,7 @@ use step_bound::{StepTruth, within_by};
 
 /// The tables of the two bounds of a craft, a seat at each, and the craft's scale, which is made once.
 #[derive(Drop)]
-pub(crate) struct Tables {
+pub struct Tables {
     quality: Shared<QualityTruth>,
     quality_seat: Seat<QualityTruth>,
     steps: Shared<StepTruth>,

@@ -2,6 +2,7 @@ use super::*;
 use action_table::Action;
 use craft_settings::Settings;
 use std::alloc::Global;
+use std::test::Fail;
 
 const MOST_BYTES: usize = 16777216;
 
@@ -20,8 +21,9 @@ const SMALL: Settings = Settings {
     backload: false,
 };
 
+// The tables of grain 1 are the smallest.
 const SMALL_TEXT: &[u8] =
-    b"raphael certificate 1 grain 16\nbest 1 0\nlevel 0 1\nc k\nlevel 1 1\nc\nlevel 2 0\n";
+    b"raphael certificate 1 grain 1\nbest 1 0\nlevel 0 1\nc k\nlevel 1 1\nc\nlevel 2 0\n";
 
 // The certificate of a crafter of level 7 with CP for a mend, whose verdicts are all but `q` and `s`.
 const MENDED_TEXT: &[u8] = b"raphael certificate 1 grain 1\nbest 0 2 1 0\n\
@@ -61,46 +63,46 @@ fn refuses_the_first_line_that_breaks_a_rule(rt: HostRuntime) {
     let rows: [(&[u8], u32); 14] = [
         (b"", 1),
         (b"raphael certificate 1 grain 65\nbest 1 0\n", 1),
-        (b"raphael certificate 1 grain 16\nbest 1\nlevel 0 1\n", 2),
-        (b"raphael certificate 1 grain 16\nbest 1 0\nlevel 0 2\n", 3),
+        (b"raphael certificate 1 grain 1\nbest 1\nlevel 0 1\n", 2),
+        (b"raphael certificate 1 grain 1\nbest 1 0\nlevel 0 2\n", 3),
         (
-            b"raphael certificate 1 grain 16\nbest 1 0\nlevel 0 1\nc q\nlevel 1 0\n",
+            b"raphael certificate 1 grain 1\nbest 1 0\nlevel 0 1\nc q\nlevel 1 0\n",
             4,
         ),
         (
-            b"raphael certificate 1 grain 16\nbest 1 0\nlevel 0 1\nc s\nlevel 1 0\n",
+            b"raphael certificate 1 grain 1\nbest 1 0\nlevel 0 1\nc s\nlevel 1 0\n",
             4,
         ),
         (
-            b"raphael certificate 1 grain 16\nbest 1 0\nlevel 0 1\nc d0\nlevel 1 0\n",
+            b"raphael certificate 1 grain 1\nbest 1 0\nlevel 0 1\nc d0\nlevel 1 0\n",
             4,
         ),
         (
-            b"raphael certificate 1 grain 16\nbest 1 0\nlevel 0 1\nc\nlevel 1 0\n",
+            b"raphael certificate 1 grain 1\nbest 1 0\nlevel 0 1\nc\nlevel 1 0\n",
             4,
         ),
         (
-            b"raphael certificate 1 grain 16\nbest 1 0\nlevel 0 1\nc k\nlevel 1 0\n",
+            b"raphael certificate 1 grain 1\nbest 1 0\nlevel 0 1\nc k\nlevel 1 0\n",
             5,
         ),
         (
-            b"raphael certificate 1 grain 16\nbest 1 0\nlevel 0 1\nc k\nlevel 1 1\nf\nlevel 2 0\n",
+            b"raphael certificate 1 grain 1\nbest 1 0\nlevel 0 1\nc k\nlevel 1 1\nf\nlevel 2 0\n",
             6,
         ),
         (
-            b"raphael certificate 1 grain 16\nbest 0\nlevel 0 1\nc k\nlevel 1 1\nc\nlevel 2 0\n",
+            b"raphael certificate 1 grain 1\nbest 0\nlevel 0 1\nc k\nlevel 1 1\nc\nlevel 2 0\n",
             6,
         ),
         (
-            b"raphael certificate 1 grain 16\nbest 1 0\nlevel 0 1\nc k\nlevel 1 1\nc\n",
+            b"raphael certificate 1 grain 1\nbest 1 0\nlevel 0 1\nc k\nlevel 1 1\nc\n",
             7,
         ),
         (
-            b"raphael certificate 1 grain 16\nbest 1 0\nlevel 0 1\nc k\nlevel 1 1\nc\nlevel 2 0",
+            b"raphael certificate 1 grain 1\nbest 1 0\nlevel 0 1\nc k\nlevel 1 1\nc\nlevel 2 0",
             7,
         ),
         (
-            b"raphael certificate 1 grain 16\nbest 1 0\nlevel 0 1\nc k\nlevel 1 1\nc\nlevel 2 0\n\n",
+            b"raphael certificate 1 grain 1\nbest 1 0\nlevel 0 1\nc k\nlevel 1 1\nc\nlevel 2 0\n\n",
             8,
         ),
     ];
@@ -110,4 +112,34 @@ fn refuses_the_first_line_that_breaks_a_rule(rt: HostRuntime) {
             "line {line}"
         );
     }
+}
+
+// Where each line of the small certificate begins and ends, and its number.
+const LINES: [(usize, usize, u32); 7] = [
+    (0, 30, 1),
+    (30, 39, 2),
+    (39, 49, 3),
+    (49, 53, 4),
+    (53, 63, 5),
+    (63, 65, 6),
+    (65, 75, 7),
+];
+
+#[test]
+fn refuses_each_changed_byte_at_its_line(rt: HostRuntime) -> Result<(), Fail> {
+    for (from, to, line) in LINES {
+        for place in from..to {
+            assert!(rt; refuses_changed(rt.alloc(), place, line)?, "byte {place}");
+        }
+    }
+    Ok(())
+}
+
+// The small certificate with a byte changed is refused at this line.
+fn refuses_changed(alloc: Global, place: usize, line: u32) -> Result<bool, Fail> {
+    let mut text = Vec::from_slice(alloc, SMALL_TEXT)?;
+    if let Some(byte) = text.get_mut(place) {
+        *byte ^= 1;
+    }
+    Ok(judges(alloc, &SMALL, text.as_slice(), &[], Some(line)))
 }

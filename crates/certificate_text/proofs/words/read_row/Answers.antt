@@ -8,7 +8,7 @@ use Rattle.certificate_text.proofs.words.read_row.Goals as goal
 pub loop-read-init : goal.loop-read-init
 loop-read-init c = record {
   inside = omega arith;
-  left = subst (λ (row : List Verdict). Left c.args.line.now c.args.count 0 row (parts space (from_on 0 c.args.line.now))) (sym c.new-row.ensures.items) (left-at-start c.args.line.now c.args.count (omega arith));
+  left = subst (λ (row : List Verdict). Left c.args.line.now c.args.count 0 row (parts space (from_on 0 c.args.line.now))) (sym c.in_ok-row.ensures.items) (left-at-start c.args.line.now c.args.count (omega arith));
 }
 
 pub loop-read-preserved : goal.loop-read-preserved
