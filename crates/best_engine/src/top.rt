@@ -1,14 +1,12 @@
 // The top call.
-ghost use Rattle.std.specs.Prelude.{◌≡◌, ◌≢◌, ◌↔◌, ◌⊎◌, ◌≤◌, ℕ, None, Some, IfSome, length};
-ghost use Rattle.craft_io.specs.Causes.{Rose};
-ghost use Rattle.craft_io.specs.Views.{GivesAtMost, GivesFewer, ReadsAtMostTimes};
+ghost use Rattle.std.specs.Prelude.{◌≡◌, None};
 ghost use Rattle.craft_settings.specs.Ranges.{IsFromTo};
-ghost use Rattle.run_io.specs.Answering.{CountsReadFault, CountsWriteFault, GivesTold, HasRow, ReadsAndWrites, Refuses, Tells, WritesPart};
-ghost use Rattle.run_io.specs.Halts.{IsIn, RunsTo};
-ghost use Rattle.run_io.specs.Statuses.{IsBeforeWriting, IsRefusal, IsResult, fault_line};
+ghost use Rattle.run_io.specs.Answering.{ReadsAndWrites};
+ghost use Rattle.run_io.specs.Halts.{RunsTo};
+ghost use Rattle.run_io.specs.Statuses.{IsBeforeWriting, IsResult};
 ghost use Rattle.run_io.specs.declared.reading.TheConstants.{READ_MOST};
 ghost use Rattle.best_engine.specs.Best.{BestAnswers};
-ghost use Rattle.best_engine.specs.Words.{IsDone, Task, asked, most_for};
+ghost use Rattle.best_engine.specs.Words.{Ends, IsDone, asked};
 
 use crate::best::best;
 use craft_io::{Sink, Source};
@@ -38,39 +36,14 @@ pub fn run<S: Source, O: Sink, E: Sink, G: Gate>(
     ensures best { IsResult result
         → ReadsAndWrites BestAnswers result (S.view source.old) (S.view source.new) (O.view out.old) (O.view out.new) }
 
-    // The run is answered, with a result or a refusal, unless a read or a write fails or memory runs out.
-    ensures complete { (workers : ℕ) → asked words.now ≡ Some workers
-        → (Rose (S.view source.old).faults (S.view source.new).faults → ⊥)
-        → (Rose (O.view out.old).faults (O.view out.new).faults → ⊥)
-        → (result ≡ Status.WantMemory)
-        ⊎ ((task : Task words.now (S.view source.old) (S.view source.new)) × HasRow (BestAnswers task.input) result) }
-    // What was read is refused, and the line of its fault was told.
-    ensures refused { IsRefusal result → (task : Task words.now (S.view source.old) (S.view source.new))
-        × Refuses (BestAnswers task.input) result (E.view err.old) (E.view err.new) }
-    // A write failed; a part of the text of the result was written, and not the whole.
-    ensures part { result ≡ Status.WriteFault → (task : Task words.now (S.view source.old) (S.view source.new))
-        × WritesPart (BestAnswers task.input) (O.view out.old) (O.view out.new) }
-    // A read failed, before as much was read as is read at most.
-    ensures read_fault { result ≡ Status.ReadFault → GivesFewer READ_MOST (S.view source.old) (S.view source.new) }
-    // The words aren't of the form.
-    ensures bad_words { (result ≡ Status.BadWords) ↔ ((asked words.now ≡ None) × (result ≢ Status.WantMemory)) }
-    // Where one byte too many was read, what was read is refused or memory is wanted, and no read failed.
-    ensures too_long { 1 ≤ most_for words.now → GivesTold (most_for words.now) (S.view source.old) (S.view source.new)
-        → IsRefusal result ⊎ (result ≡ Status.WantMemory) }
-
-    // A failed call of the source or of `out` is always told, and none is tried again.
-    ensures read_count { CountsReadFault result (S.view source.old).faults (S.view source.new).faults }
-    ensures write_count { CountsWriteFault result (O.view out.old).faults (O.view out.new).faults }
-
-    // How much is read and written.
-    ensures at_most { GivesAtMost (most_for words.now) (S.view source.old) (S.view source.new) }
-    ensures times { ReadsAtMostTimes (most_for words.now) (S.view source.old) (S.view source.new) }
+    // What its status means, and what was read, written and told.
+    ensures ends { Ends words.now result
+        (record { source = S.view source.old; out = O.view out.old; err = E.view err.old })
+        (record { source = S.view source.new; out = O.view out.new; err = E.view err.new }) }
+    // What stays as it was.
     ensures nothing_read { asked words.now ≡ None → source.new ≡ source.old }
     ensures nothing_written { IsBeforeWriting result → out.new ≡ out.old }
-
-    // What is told on `err`, beside the lines of refusals.
-    ensures told { IfSome (fault_line result) (λ line. Tells line (E.view err.old) (E.view err.new)) }
-    ensures quiet { IsResult result → err.new ≡ err.old }
+    ensures nothing_told { IsResult result → err.new ≡ err.old }
 {
     match outcome_of(rt, alloc, words, source, gate) {
         Ok(answer) => write_answer(out, err, &answer),

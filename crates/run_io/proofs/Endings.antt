@@ -5,7 +5,7 @@ use Rattle.craft_settings.specs.Reading.{max_length}
 use Rattle.run_io.specs.Answering.{CountsWriteFault, Rows, WithSettings}
 use Rattle.run_io.specs.Statuses.{IsResult}
 use Rattle.run_io.specs.declared.status.Status.{Status}
-use Rattle.run_io.specs.declared.status.Status.TheVariants.{Solved, NoMacro, BadWords, BadSettings, ReadFault, WriteFault, WantMemory, BadPrefix, NotReached, BadMacro, StoppedMacro, NotBest}
+use Rattle.run_io.specs.declared.status.Status.TheVariants.{Solved, NoMacro, BadWords, BadSettings, ReadFault, WriteFault, WantMemory, BadPrefix, NotReached, BadMacro, StoppedMacro, NotBest, BadCertificate}
 
 pub no_write_fault : (s : Status) → IsResult s → s ≡ WriteFault → ⊥
 no_write_fault s result is = subst IsResult is result
@@ -23,6 +23,7 @@ kept_write NotReached faults faults' other same = same
 kept_write BadMacro faults faults' other same = same
 kept_write StoppedMacro faults faults' other same = same
 kept_write NotBest faults faults' other same = same
+kept_write BadCertificate faults faults' other same = same
 
 -- settings that are answered with a result were read whole
 pub short_row : (rows : SettingsFields → Rows) (input : List ℕ) (s : Status) (text : List ℕ) → IsResult s → WithSettings rows input s text → length input ≤ max_length
@@ -38,3 +39,4 @@ short_row rows input NotReached text result row = row.1.accepted.short
 short_row rows input BadMacro text result row = absurd result
 short_row rows input StoppedMacro text result row = row.1.accepted.short
 short_row rows input NotBest text result row = row.1.accepted.short
+short_row rows input BadCertificate text result row = absurd result

@@ -1,3 +1,4 @@
 mod FaultLength
 pub mod Endings
+pub mod Runs
 pub mod Tasks

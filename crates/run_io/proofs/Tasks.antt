@@ -11,7 +11,7 @@ use Rattle.run_io.specs.declared.answer.Answer.{Answer}
 use Rattle.run_io.specs.declared.halt.Halt.{Halt}
 use Rattle.run_io.specs.declared.halt.Halt.TheVariants.{Refused, BadWords as BadWordsHalt, ReadFault as ReadFaultHalt, WantMemory as WantMemoryHalt}
 use Rattle.run_io.specs.declared.status.Status.{Status}
-use Rattle.run_io.specs.declared.status.Status.TheVariants.{WriteFault, WantMemory}
+use Rattle.run_io.specs.declared.status.Status.TheVariants.{BadWords, ReadFault, WriteFault, WantMemory}
 use Rattle.run_io.proofs.Endings.{no_write_fault}
 
 -- the status of a text that was written whole
@@ -126,6 +126,14 @@ module _ {W : Type 0} (asked : Option W) (most : W → ℕ) (answers : W → Lis
       go ReadFaultHalt done tells refusal = absurd refusal
       go WantMemoryHalt done tells refusal = absurd refusal
       go (Refused refused) done tells refusal = (done.comes.0, record { line = refused.line.items; is = done.comes.1.1; tells = tells })
+
+  -- a run tells of a failed read only where one failed, before as much was read as is read at most
+  pub failed_read : (h : Halt) (r : Status) (before after : SourceView) → IsDoneOf asked most answers (Err h) before after → r ≡ status_of h
+      → r ≡ ReadFault → (given : W) × (asked ≡ Some given) × GivesFewer (most given) before after
+  failed_read BadWordsHalt r before after done status fault = let other : BadWords ≡ ReadFault = sym status ∙ fault in absurd (cc)
+  failed_read ReadFaultHalt r before after done status fault = done.comes
+  failed_read WantMemoryHalt r before after done status fault = let other : WantMemory ≡ ReadFault = sym status ∙ fault in absurd (cc)
+  failed_read (Refused refusal) r before after done status fault = absurd (subst IsRefusal (sym status ∙ fault) done.comes.1.0)
 
   comes_by : (given : W) (result : Result Answer Halt) (before after : SourceView) → asked ≡ Some given
       → IsOutcome (answers given) (most given) result before after → ComesToOf asked most answers result before after

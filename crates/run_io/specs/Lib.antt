@@ -1,4 +1,5 @@
 pub mod Answering
+pub mod Ends
 pub mod FaultLine
 pub mod Halts
 pub mod Reading

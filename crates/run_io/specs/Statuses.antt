@@ -2,7 +2,7 @@
 use Rattle.std.specs.Prelude.{ℕ, List, Option, None, Some, ⊤}
 use Rattle.run_io.specs.FaultLine.{words_line, read_line, write_line, memory_line}
 use Rattle.run_io.specs.declared.status.Status.{Status}
-use Rattle.run_io.specs.declared.status.Status.TheVariants.{Solved, NoMacro, BadWords, BadSettings, ReadFault, WriteFault, WantMemory, BadPrefix, NotReached, BadMacro, StoppedMacro, NotBest}
+use Rattle.run_io.specs.declared.status.Status.TheVariants.{Solved, NoMacro, BadWords, BadSettings, ReadFault, WriteFault, WantMemory, BadPrefix, NotReached, BadMacro, StoppedMacro, NotBest, BadCertificate}
 
 -- the exit status of the program
 abbrev pub code_of : Status → ℕ
@@ -18,6 +18,7 @@ code_of NotReached = 8
 code_of BadMacro = 9
 code_of StoppedMacro = 10
 code_of NotBest = 11
+code_of BadCertificate = 12
 
 -- a result: its text was written to `out`
 abbrev pub IsResult : Status → Type 0
@@ -33,6 +34,7 @@ abbrev pub IsRefusal : Status → Type 0
 IsRefusal BadSettings = ⊤
 IsRefusal BadPrefix = ⊤
 IsRefusal BadMacro = ⊤
+IsRefusal BadCertificate = ⊤
 IsRefusal _ = ⊥
 
 -- the run ended before the first byte was written

@@ -1,13 +1,13 @@
 -- What words ask for, and what it comes to. `asked` is what they ask for, and none where they aren't of the form; as much
 -- is read for it at most as `most` says, and `answers` has the rows for what was read.
-use Rattle.std.specs.Prelude.{ℕ, ◌≡◌, List, Option, None, Some, Result, Ok, Err, ⊤}
+use Rattle.std.specs.Prelude.{ℕ, ◌≡◌, List, Option, None, Some, Result, Err, ⊤}
 use Rattle.craft_io.specs.Views.{GivesAtMost, GivesFewer, ReadsAtMostTimes, SourceView}
 use Rattle.run_io.specs.Answering.{Rows}
 use Rattle.run_io.specs.Halts.{CountsHalt, IsIn}
 use Rattle.run_io.specs.Reading.{Reads}
 use Rattle.run_io.specs.declared.answer.Answer.{Answer}
 use Rattle.run_io.specs.declared.halt.Halt.{Halt}
-use Rattle.run_io.specs.declared.halt.Halt.TheVariants.{BadWords, ReadFault, Refused, WantMemory}
+use Rattle.run_io.specs.declared.halt.Halt.TheVariants.{BadWords, ReadFault, WantMemory}
 
 -- the most bytes that are read for words; none for words that aren't of the form
 abbrev pub most_asked : {W : Type 0} → (W → ℕ) → Option W → ℕ

@@ -29,6 +29,8 @@ pub enum Status {
     StoppedMacro,
     /// The macro isn't the best one, and the text of the best one was written.
     NotBest,
+    /// The settings are followed by no certificate.
+    BadCertificate,
 }
 
 impl Status {
@@ -49,6 +51,7 @@ impl Status {
             Status::BadMacro => 9,
             Status::StoppedMacro => 10,
             Status::NotBest => 11,
+            Status::BadCertificate => 12,
         }
     }
 }

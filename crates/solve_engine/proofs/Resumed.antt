@@ -1,5 +1,5 @@
 -- The best list after actions that are done, from the state that they lead to.
-use Rattle.std.proofs.Common.{◌≡◌, ◌≤◌, ℕ, ◌+◌, ◌++◌, arith, length, length-append, List, Some, Err, sym, subst}
+use Rattle.std.proofs.Common.{◌≡◌, ◌≤◌, ℕ, ◌++◌, arith, length, length-append, List, Some, Err}
 use Rattle.action_table.specs.declared.action.Action.{Action}
 use Rattle.craft_settings.specs.Ranges.{AreSettings, SettingsFields}
 use Rattle.craft_state.specs.Craft.{StateFields}
@@ -8,16 +8,15 @@ use Rattle.macro_order.proofs.Continuation.{best-from}
 use Rattle.replay_report.proofs.Complete.{at_most, completes-scored}
 use Rattle.run_io.specs.Halts.{IsIn}
 use Rattle.run_io.specs.Reading.{AcceptsOnly}
-use Rattle.run_io.specs.Statuses.{IsRefusal}
 use Rattle.run_io.specs.declared.halt.Halt.{Halt}
 use Rattle.run_io.specs.declared.halt.Halt.TheVariants.{Refused, BadWords as BadWordsHalt, ReadFault as ReadFaultHalt, WantMemory as WantMemoryHalt}
-use Rattle.run_io.specs.declared.status.Status.{Status}
 use Rattle.run_io.specs.declared.status.Status.TheVariants.{BadPrefix}
 use Rattle.step_rules.specs.Legality.{start_of}
 use Rattle.step_rules.specs.Macro.{Completes}
 use Rattle.step_rules.specs.Run.{run_of}
 use Rattle.step_rules.specs.declared.legality.TheConstants.{MOST_STEPS}
 use Rattle.solve_engine.specs.Resume.{IsHaltOfDone, ResumeAnswers}
+use Rattle.solve_engine.proofs.Inputs.{refused_in}
 
 pub completes-rest : (g : SettingsFields) (done rest : List Action) (from : StateFields) → run_of g (start_of g) done ≡ Some from → IsBestAfter g done rest → Completes g from rest
 completes-rest g done rest from ran best = completes-scored g from rest _ (best-from g done rest from ran best).completes
@@ -34,6 +33,4 @@ halt_of_done input g done BadWordsHalt accepted halt = absurd halt
 halt_of_done input g done ReadFaultHalt accepted halt = absurd halt
 halt_of_done input g done WantMemoryHalt accepted halt = tt
 halt_of_done input g done (Refused refusal) accepted halt =
-    let row : ResumeAnswers done input BadPrefix refusal.line.items = (g, accepted, halt.1) in
-    let is = sym halt.0 in
-    (subst IsRefusal is tt, subst (λ (s : Status). ResumeAnswers done input s refusal.line.items) is row)
+    refused_in (ResumeAnswers done input) BadPrefix refusal halt.0 tt (g, accepted, halt.1)

@@ -1,3 +1,4 @@
+pub mod Certify
 pub mod Check
 pub mod Commands
 pub mod Input
@@ -8,4 +9,5 @@ pub mod Sample
 pub mod Search
 pub mod Solve
 pub mod Sweep
+pub mod Verify
 pub mod Words

@@ -9,6 +9,7 @@ ghost use Rattle.solve_engine.specs.Check.{ChecksTo, CheckAnswers, best_line, no
 ghost use Rattle.solve_engine.specs.Search.{IsFound};
 ghost use Rattle.solve_engine.specs.Solve.{IsMacroText};
 
+use crate::machine::Machine;
 use crate::pasted::{Pasted, pasted_in};
 use crate::searches::{Found, best_of, find};
 use crate::solve::{macro_text, none_text};
@@ -24,39 +25,36 @@ use std::thread::Threads;
 use worker_gate::Gate;
 
 /// What `check` answers to settings and macro text.
-pub(crate) fn check<G: Gate>(
-    rt: &(impl Threads + Sync),
-    alloc: Global,
+pub(crate) fn check<R: Threads + Sync, G: Gate>(
+    machine: &Machine<'_, R, G>,
     given: &Words,
     input: &[u8],
-    gate: &G,
 ) -> Result<Answer, Halt>
     requires range { AreInRange given.now }
     requires within { length input.now ≤ READ_MOST }
     ensures { IsIn (CheckAnswers given.now input.now) result }
 {
-    let pasted = pasted_in(alloc, input)?;
-    Ok(checked(rt, alloc, &pasted, given, gate)?)
+    let pasted = pasted_in(machine.alloc, input)?;
+    Ok(checked(machine, &pasted, given)?)
 }
 
 // Whether the macro is the best one for its craft.
-fn checked<G: Gate>(
-    rt: &(impl Threads + Sync),
-    alloc: Global,
+fn checked<R: Threads + Sync, G: Gate>(
+    machine: &Machine<'_, R, G>,
     pasted: &Pasted,
     given: &Words,
-    gate: &G,
 ) -> Result<Answer, WantMemory>
     requires { AreInRange given.now }
     ensures { IfOk result (IsAnswerIn (ChecksTo given.now.grain pasted.now.craft pasted.now.actions.items)) }
 {
-    if is_best(rt, alloc, pasted, given, gate)? {
+    let alloc = machine.alloc;
+    if is_best(machine, pasted, given)? {
         return Ok(Answer {
             status: Status::Solved,
             text: best_text(alloc)?,
         });
     }
-    let Some(mut found) = find(rt, alloc, &pasted.craft, given, gate)? else {
+    let Some(mut found) = find(machine, &pasted.craft, given)? else {
         return Ok(Answer {
             status: Status::NoMacro,
             text: none_text(alloc)?,
@@ -69,12 +67,10 @@ fn checked<G: Gate>(
 }
 
 // The best macro is only searched for where this one completes the craft.
-fn is_best<G: Gate>(
-    rt: &(impl Threads + Sync),
-    alloc: Global,
+fn is_best<R: Threads + Sync, G: Gate>(
+    machine: &Machine<'_, R, G>,
     pasted: &Pasted,
     given: &Words,
-    gate: &G,
 ) -> Result<bool, WantMemory>
     requires { AreInRange given.now }
     ensures { IfOk result (λ yes. IsTrue yes ↔ IsBest pasted.now.craft pasted.now.actions.items) }
@@ -84,7 +80,7 @@ fn is_best<G: Gate>(
         return Ok(false);
     }
     one_is_best();
-    match best_of(rt, alloc, craft, given, gate)? {
+    match best_of(machine, craft, given)? {
         Some(best) => Ok(best.as_slice() == actions.as_slice()),
         None => Ok(false),
     }

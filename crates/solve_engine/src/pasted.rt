@@ -6,9 +6,9 @@ ghost use Rattle.solve_engine.specs.Input.{AreParts};
 ghost use Rattle.solve_engine.specs.Pasted.{IsHaltOfInput, IsHaltOfMacro, IsInput, IsPasted, bad_line, no_mark_line};
 
 use action_table::{Action, WantMemory};
-use craft_settings::Settings;
+use craft_settings::{MAX_LENGTH, Settings};
 use macro_read::{MacroFault, divide, macro_of};
-use run_io::{Halt, READ_MOST, Refusal, Status, settings_in};
+use run_io::{Halt, Refusal, Status, settings_in};
 use std::alloc::Global;
 
 /// A craft, and a macro for it.
@@ -24,18 +24,19 @@ pub(crate) fn pasted_in(alloc: Global, input: &[u8]) -> Result<Pasted, Halt>
     ensures found { IfOk result (λ p. IsInput input.now p.craft p.actions.items) }
     ensures halts { IfErr result (IsHaltOfInput input.now) }
 {
-    let (settings, rest) = parts_of(input);
+    let (settings, rest) = parts_within(input, MAX_LENGTH);
     let craft = settings_in(alloc, settings)?;
     let actions = actions_in(alloc, rest)?;
     Ok(Pasted { craft, actions })
 }
 
-// The settings of an input, and what follows them after the line `---`, if there is such a line.
-fn parts_of(input: &[u8]) -> (&[u8], Option<&[u8]>)
-    ensures are { AreParts max_length input.now result.0.now (option_map (λ text. text.now) result.1) }
-    ensures short { IfSome result.1 (λ text. length text.now ≤ max_length) }
+/// The settings of an input, and what follows them after the line `---`, if there is such a line. An input of more bytes
+/// than `most` isn't divided.
+pub(crate) fn parts_within(input: &[u8], most: usize) -> (&[u8], Option<&[u8]>)
+    ensures are { AreParts most input.now result.0.now (option_map (λ text. text.now) result.1) }
+    ensures short { IfSome result.1 (λ text. length text.now ≤ most) }
 {
-    if input.len() >= READ_MOST {
+    if input.len() > most {
         return (input, None);
     }
     match divide(input) {

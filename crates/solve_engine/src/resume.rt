@@ -7,6 +7,7 @@ ghost use Rattle.run_io.specs.Halts.{IsAnswerIn, IsIn};
 ghost use Rattle.run_io.specs.declared.reading.TheConstants.{READ_MOST};
 ghost use Rattle.solve_engine.specs.Resume.{IsHaltOfDone, ResumeAnswers, ResumesTo, unfit_line};
 
+use crate::machine::Machine;
 use crate::solve::none_text;
 use action_table::{Action, WantMemory};
 use best_search::seekers;
@@ -19,21 +20,19 @@ use std::thread::Threads;
 use worker_gate::{Crew, Gate};
 
 /// What `resume` answers to the bytes of a settings file.
-pub(crate) fn resume<G: Gate>(
-    rt: &(impl Threads + Sync),
-    alloc: Global,
+pub(crate) fn resume<R: Threads + Sync, G: Gate>(
+    machine: &Machine<'_, R, G>,
     workers: u32,
     done: &[Action],
     input: &[u8],
-    gate: &G,
 ) -> Result<Answer, Halt>
     requires workers { IsFromTo 1 64 workers }
     requires within { length input.now ≤ READ_MOST }
     ensures { IsIn (ResumeAnswers done.now input.now) result }
 {
-    let settings = settings_in(alloc, input)?;
-    let craft = craft_after(alloc, &settings, done)?;
-    Ok(resumed(rt, alloc, workers, &craft, gate)?)
+    let settings = settings_in(machine.alloc, input)?;
+    let craft = craft_after(machine.alloc, &settings, done)?;
+    Ok(resumed(machine, workers, &craft)?)
 }
 
 // The craft after the actions that are done. It halts where one of them isn't legal in its turn, or the craft is over.
@@ -66,16 +65,15 @@ fn unfit_text(alloc: Global, unfit: Unfit) -> Result<Vec<u8>, WantMemory>
 }
 
 // The text of the best way to end the craft, or `none` where nothing completes it.
-fn resumed<G: Gate>(
-    rt: &(impl Threads + Sync),
-    alloc: Global,
+fn resumed<R: Threads + Sync, G: Gate>(
+    machine: &Machine<'_, R, G>,
     workers: u32,
     craft: &Underway<'_>,
-    gate: &G,
 ) -> Result<Answer, WantMemory>
     requires { IsFromTo 1 64 workers }
     ensures { IfOk result (IsAnswerIn (ResumesTo craft.now.done.now craft.now.g.now)) }
 {
+    let Machine { rt, alloc, gate } = *machine;
     let mut crew = Crew::new(rt, gate, seekers(alloc, workers)?);
     let Some(rest) = best_rest(&mut crew, alloc, craft)? else {
         return Ok(Answer {

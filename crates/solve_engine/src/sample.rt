@@ -5,29 +5,28 @@ ghost use Rattle.sample_craft.specs.Sample.{most_number};
 ghost use Rattle.solve_words.specs.Words.{AreInRange};
 ghost use Rattle.solve_engine.specs.Sample.{SampleAnswers};
 
+use crate::machine::Machine;
 use crate::searches::find;
 use replay_report::{sample_none, sample_report};
 use run_io::{Answer, Halt, Status};
 use sample_craft::settings_of;
 use solve_words::Words;
-use std::alloc::Global;
 use std::thread::Threads;
 use worker_gate::Gate;
 
 /// What `sample` answers for a number.
-pub(crate) fn sample<G: Gate>(
-    rt: &(impl Threads + Sync),
-    alloc: Global,
+pub(crate) fn sample<R: Threads + Sync, G: Gate>(
+    machine: &Machine<'_, R, G>,
     given: &Words,
     n: u32,
-    gate: &G,
 ) -> Result<Answer, Halt>
     requires range { AreInRange given.now }
     requires number { n ≤ most_number }
     ensures { IsIn (SampleAnswers given.now n) result }
 {
+    let alloc = machine.alloc;
     let g = settings_of(n);
-    let Some(found) = find(rt, alloc, &g, given, gate)? else {
+    let Some(found) = find(machine, &g, given)? else {
         return Ok(Answer {
             status: Status::NoMacro,
             text: sample_none(alloc, n, &g)?,

@@ -8,6 +8,7 @@ ghost use Rattle.seat_tables.specs.Seats.{IsOf};
 ghost use Rattle.solve_words.specs.Words.{AreInRange};
 ghost use Rattle.solve_engine.specs.Search.{IsFound};
 
+use crate::machine::Machine;
 use action_table::{Action, WantMemory};
 use best_search::best_with;
 use craft_settings::Settings;
@@ -32,16 +33,15 @@ pub(crate) struct Found {
 
 /// The best macro of a craft, by as many workers and over bounds at the grain that the words name, or None where no
 /// legal macro completes it.
-pub(crate) fn find<G: Gate>(
-    rt: &(impl Threads + Sync),
-    alloc: Global,
+pub(crate) fn find<R: Threads + Sync, G: Gate>(
+    machine: &Machine<'_, R, G>,
     g: &Settings,
     given: &Words,
-    gate: &G,
 ) -> Result<Option<Found>, WantMemory>
     requires { AreInRange given.now }
     ensures { IfOk result (λ found. MatchOption found (NothingCompletes g.now) (IsFound g.now given.now.grain)) }
 {
+    let Machine { rt, alloc, gate } = *machine;
     let Words { workers, grain, .. } = *given;
     let (table, first) = Shared::new(alloc, QualityTruth::new(g, grain))?;
     let seats = seats_of(alloc, &table, first, workers)?;
@@ -65,17 +65,15 @@ pub(crate) fn find<G: Gate>(
 }
 
 /// The best macro of a craft without the sizes of its fronts, or None where no legal macro completes it.
-pub(crate) fn best_of<G: Gate>(
-    rt: &(impl Threads + Sync),
-    alloc: Global,
+pub(crate) fn best_of<R: Threads + Sync, G: Gate>(
+    machine: &Machine<'_, R, G>,
     g: &Settings,
     given: &Words,
-    gate: &G,
 ) -> Result<Option<Vec<Action>>, WantMemory>
     requires { AreInRange given.now }
     ensures { IfOk result (λ found. MatchOption found (NothingCompletes g.now) (λ m. IsBest g.now m.items)) }
 {
-    best_with(rt, alloc, g, given.workers, gate)
+    best_with(machine.rt, machine.alloc, g, given.workers, machine.gate)
 }
 
 // Seats for all workers.

@@ -11,6 +11,7 @@ ghost use Rattle.solve_words.specs.Words.{AreInRange};
 ghost use Rattle.solve_engine.specs.Search.{IsFound};
 ghost use Rattle.solve_engine.specs.Solve.{IsMacroText, SolveAnswers, SolvesTo};
 
+use crate::machine::Machine;
 use crate::searches::{Found, find};
 use action_table::{Action, WantMemory};
 use admissible::laws::{macro_law, start_law};
@@ -24,33 +25,30 @@ use step_rules::start;
 use worker_gate::Gate;
 
 /// What `solve` answers to the bytes of a settings file.
-pub(crate) fn solve<G: Gate>(
-    rt: &(impl Threads + Sync),
-    alloc: Global,
+pub(crate) fn solve<R: Threads + Sync, G: Gate>(
+    machine: &Machine<'_, R, G>,
     given: &Words,
     input: &[u8],
-    gate: &G,
 ) -> Result<Answer, Halt>
     requires range { AreInRange given.now }
     requires within { length input.now ≤ READ_MOST }
     ensures { IsIn (SolveAnswers given.now input.now) result }
 {
-    let settings = settings_in(alloc, input)?;
-    solve_for(rt, alloc, &settings, given, gate)
+    let settings = settings_in(machine.alloc, input)?;
+    solve_for(machine, &settings, given)
 }
 
 // The text of the best macro of a craft, or `none` where no legal macro completes it.
-fn solve_for<G: Gate>(
-    rt: &(impl Threads + Sync),
-    alloc: Global,
+fn solve_for<R: Threads + Sync, G: Gate>(
+    machine: &Machine<'_, R, G>,
     g: &Settings,
     given: &Words,
-    gate: &G,
 ) -> Result<Answer, Halt>
     requires { AreInRange given.now }
     ensures { IsIn (SolvesTo given.now g.now) result }
 {
-    let Some(mut found) = find(rt, alloc, g, given, gate)? else {
+    let alloc = machine.alloc;
+    let Some(mut found) = find(machine, g, given)? else {
         return Ok(Answer {
             status: Status::NoMacro,
             text: none_text(alloc)?,

@@ -5,6 +5,7 @@ ghost use Rattle.run_io.specs.declared.reading.TheConstants.{READ_MOST};
 ghost use Rattle.solve_words.specs.Words.{AreInRange};
 ghost use Rattle.solve_engine.specs.Sweep.{SweepAnswers, SweepsTo};
 
+use crate::machine::Machine;
 use crate::searches::best_of;
 use crate::solve::none_text;
 use crate::sweep_text::{least_text, short_text};
@@ -42,25 +43,23 @@ impl<F: Fn(&Settings) -> Result<Option<Vec<Action>>, WantMemory>> Solver for Cou
 }
 
 /// What `sweep` answers to the bytes of a settings file.
-pub(crate) fn sweep<G: Gate>(
-    rt: &(impl Threads + Sync),
-    alloc: Global,
+pub(crate) fn sweep<R: Threads + Sync, G: Gate>(
+    machine: &Machine<'_, R, G>,
     given: &Words,
     input: &[u8],
-    gate: &G,
 ) -> Result<Answer, Halt>
     requires range { AreInRange given.now }
     requires within { length input.now ≤ READ_MOST }
     ensures { IsIn (SweepAnswers input.now) result }
 {
-    let settings = settings_in(alloc, input)?;
+    let settings = settings_in(machine.alloc, input)?;
     let mut search = Counted {
         find: |craft: &Settings|
             requires { AreInRange given.now }
-        { best_of(rt, alloc, craft, given, gate) },
+        { best_of(machine, craft, given) },
         calls: 0,
     };
-    Ok(swept(alloc, &settings, &mut search)?)
+    Ok(swept(machine.alloc, &settings, &mut search)?)
 }
 
 // The least base quality that is enough, by any solver.

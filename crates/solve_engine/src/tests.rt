@@ -222,18 +222,34 @@ pub(crate) fn gives<R: AllocGlobal + Abort + Threads + Sync>(
     devices: Devices,
     want: (Status, &[u8], &str),
 ) -> Result<(), Fail> {
-    gives_behind(rt, &FreeGate, words, file, devices, want)
+    let case = Case {
+        words,
+        file,
+        devices,
+    };
+    gives_behind(rt, &FreeGate, case, want)
+}
+
+// What a run is given.
+#[derive(Clone, Copy)]
+struct Case<'a> {
+    words: &'a [&'a str],
+    file: &'a [u8],
+    devices: Devices,
 }
 
 // Reads in pieces of 10 bytes and writes in pieces of 5.
 fn gives_behind<R: AllocGlobal + Abort + Threads + Sync, G: Gate>(
     rt: &R,
     gate: &G,
-    words: &[&str],
-    file: &[u8],
-    devices: Devices,
+    case: Case<'_>,
     want: (Status, &[u8], &str),
 ) -> Result<(), Fail> {
+    let Case {
+        words,
+        file,
+        devices,
+    } = case;
     let (status, text, line) = want;
     let mut given = Vec::new(rt.alloc());
     for word in words {
@@ -433,6 +449,8 @@ fn given_words(rt: HostRuntime) -> Result<(), Fail> {
     is_bad(&rt, &["replay", "--grain", "2"])?;
     is_bad(&rt, &["check", "--report", "plain"])?;
     is_bad(&rt, &["sweep", "--report", "plain"])?;
+    is_bad(&rt, &["certify", "--report", "plain"])?;
+    is_bad(&rt, &["verify", "--grain", "16"])?;
     let file = craft(rt.alloc(), ONE_TOUCH)?;
     let words = ["solve", "--workers=64", "--report", "plain", "--grain", "8"];
     let want = (Status::Solved, TOUCH.as_bytes(), "");
@@ -537,9 +555,13 @@ fn grains(rt: HostRuntime) -> Result<(), Fail> {
 #[test]
 fn workers_run_side_by_side(rt: HostRuntime) -> Result<(), Fail> {
     let gate = Meeting::new();
-    let words = ["solve", "--workers=2", "--report=levels"];
+    let case = Case {
+        words: &["solve", "--workers=2", "--report=levels"],
+        file: ORDINARY_FILE.as_bytes(),
+        devices: SOUND,
+    };
     let want = (Status::Solved, ORDINARY.as_bytes(), "");
-    gives_behind(&rt, &gate, &words, ORDINARY_FILE.as_bytes(), SOUND, want)?;
+    gives_behind(&rt, &gate, case, want)?;
     assert!(rt; gate.have_met());
     Ok(())
 }

@@ -2,7 +2,7 @@
 use Rattle.std.proofs.Common.{◌≡◌, refl}
 use Rattle.run_io.specs.Statuses.{code_of}
 use Rattle.run_io.specs.declared.status.Status.{Status}
-use Rattle.run_io.specs.declared.status.Status.TheVariants.{Solved, NoMacro, BadWords, BadSettings, ReadFault, WriteFault, WantMemory, BadPrefix, NotReached, BadMacro, StoppedMacro, NotBest}
+use Rattle.run_io.specs.declared.status.Status.TheVariants.{Solved, NoMacro, BadWords, BadSettings, ReadFault, WriteFault, WantMemory, BadPrefix, NotReached, BadMacro, StoppedMacro, NotBest, BadCertificate}
 
 pub is_bad_settings : (s : Status) → code_of s ≡ code_of BadSettings → s ≡ BadSettings
 is_bad_settings Solved same = absurd (cc)
@@ -17,3 +17,4 @@ is_bad_settings NotReached same = absurd (cc)
 is_bad_settings BadMacro same = absurd (cc)
 is_bad_settings StoppedMacro same = absurd (cc)
 is_bad_settings NotBest same = absurd (cc)
+is_bad_settings BadCertificate same = absurd (cc)

@@ -11,7 +11,7 @@ use Rattle.craft_settings.specs.Ranges.{IsFromTo}
 use Rattle.sample_craft.specs.Sample.{most_number}
 use Rattle.replay_report.specs.declared.style.Report.{Report}
 use Rattle.solve_words.specs.declared.words.Command.{Command}
-use Rattle.solve_words.specs.declared.words.Command.TheVariants.{Solve, Sample, Resume, Sweep, Replay, Check}
+use Rattle.solve_words.specs.declared.words.Command.TheVariants.{Solve, Sample, Resume, Sweep, Replay, Check, Certify, Verify}
 use Rattle.solve_words.specs.declared.words.Words.{Words}
 
 abbrev pub words_read : Command → Option ℕ → Option ℕ → Option Report → Option Words
@@ -33,6 +33,8 @@ options_of (Resume done) = codes "done" ∷ codes "workers" ∷ codes "grain" �
 options_of Sweep = codes "workers" ∷ codes "grain" ∷ []
 options_of Replay = []
 options_of Check = codes "workers" ∷ codes "grain" ∷ []
+options_of Certify = codes "workers" ∷ codes "grain" ∷ []
+options_of Verify = []
 
 -- what a command with these words after it says: options
 abbrev pub words_with : Command → List Text → Option Words
@@ -57,7 +59,8 @@ after_resume words = option_and_then resume_given (given_in (options_of (Resume 
 abbrev pub command_table : List (Text × (List Text → Option Words))
 command_table =
     (codes "solve", words_with Solve) ∷ (codes "sample", after_sample) ∷ (codes "resume", after_resume)
-    ∷ (codes "sweep", words_with Sweep) ∷ (codes "replay", words_with Replay) ∷ (codes "check", words_with Check) ∷ []
+    ∷ (codes "sweep", words_with Sweep) ∷ (codes "replay", words_with Replay) ∷ (codes "check", words_with Check)
+    ∷ (codes "certify", words_with Certify) ∷ (codes "verify", words_with Verify) ∷ []
 
 -- what the words say; none where they are not of the form
 abbrev pub words_of : List Text → Option Words

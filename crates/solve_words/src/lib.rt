@@ -35,11 +35,11 @@ const DEFAULT_WORKERS: u32 = 4;
 const DEFAULT_GRAIN: u32 = 16;
 
 /// Reads the words after the program's name: a command and then its options in any order, each at
-/// most once, as `--name value` or `--name=value`. The command is `solve`, `resume`, `sweep`, `replay`, `check`, or
-/// `sample` and the sample's number of one to six digits with no leading 0 unless it is `0`. All but `replay` have
-/// `--workers` and `--grain` of 1 to 64, and `solve` has `--report` as `plain`, `limits` or `levels`. `resume` must have
-/// `--done`: the key names of one or more actions, with single commas between them. BadWords comes for all other words,
-/// and for no others.
+/// most once, as `--name value` or `--name=value`. The command is `solve`, `resume`, `sweep`, `replay`, `check`,
+/// `certify`, `verify`, or `sample` and the sample's number of one to six digits with no leading 0 unless it is `0`. All
+/// but `replay` and `verify` have `--workers` and `--grain` of 1 to 64, and `solve` has `--report` as `plain`, `limits`
+/// or `levels`. `resume` must have `--done`: the key names of one or more actions, with single commas between them.
+/// BadWords comes for all other words, and for no others.
 pub fn read_words(alloc: Global, words: &[String]) -> Result<Words, WordsFault>
     ensures ok { IfOk result (λ read. words_of (map string_bytes words.now) ≡ Some read) }
     ensures range { IfOk result AreInRange }
@@ -56,6 +56,8 @@ pub fn read_words(alloc: Global, words: &[String]) -> Result<Words, WordsFault>
         "sweep" => with_options(alloc, Command::Sweep, rest),
         "replay" => with_options(alloc, Command::Replay, rest),
         "check" => with_options(alloc, Command::Check, rest),
+        "certify" => with_options(alloc, Command::Certify, rest),
+        "verify" => with_options(alloc, Command::Verify, rest),
         _ => Err(WordsFault::BadWords),
     }
 }

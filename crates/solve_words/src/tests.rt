@@ -12,6 +12,8 @@ enum Asked {
     Sweep,
     Replay,
     Check,
+    Certify,
+    Verify,
 }
 
 // What words say.
@@ -31,7 +33,7 @@ const DEFAULT: Said = Said {
 };
 
 // Words of the form, and what they say.
-const ACCEPTED: [(&[&str], Said); 15] = [
+const ACCEPTED: [(&[&str], Said); 17] = [
     (&["solve"], DEFAULT),
     (
         &["solve", "--workers=64", "--report", "limits"],
@@ -143,6 +145,21 @@ const ACCEPTED: [(&[&str], Said); 15] = [
         },
     ),
     (
+        &["certify", "--grain", "1"],
+        Said {
+            command: Asked::Certify,
+            grain: 1,
+            ..DEFAULT
+        },
+    ),
+    (
+        &["verify"],
+        Said {
+            command: Asked::Verify,
+            ..DEFAULT
+        },
+    ),
+    (
         &["sweep", "--workers=1", "--grain", "63"],
         Said {
             command: Asked::Sweep,
@@ -153,7 +170,7 @@ const ACCEPTED: [(&[&str], Said); 15] = [
     ),
 ];
 
-const REFUSED: [&[&str]; 37] = [
+const REFUSED: [&[&str]; 39] = [
     &[],
     &[""],
     &["Solve"],
@@ -185,6 +202,8 @@ const REFUSED: [&[&str]; 37] = [
     &["solve", "--done", "observe"],
     &["replay", "--workers", "1"],
     &["replay", "--grain=1"],
+    &["verify", "--grain=1"],
+    &["certify", "--report", "plain"],
     &["replay", "replay"],
     &["replay", "--"],
     &["check", "--report", "plain"],
@@ -222,7 +241,9 @@ fn is_asked(command: &Command, wanted: Asked) -> bool {
         (Command::Solve, Asked::Solve)
         | (Command::Sweep, Asked::Sweep)
         | (Command::Replay, Asked::Replay)
-        | (Command::Check, Asked::Check) => true,
+        | (Command::Check, Asked::Check)
+        | (Command::Certify, Asked::Certify)
+        | (Command::Verify, Asked::Verify) => true,
         (Command::Sample(number), Asked::Sample(wanted)) => *number == wanted,
         (Command::Resume(done), Asked::Resume(wanted)) => done.actions.as_slice() == wanted,
         _ => false,

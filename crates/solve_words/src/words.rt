@@ -22,6 +22,10 @@ pub enum Command {
     Replay,
     /// Tell whether that macro is the best one.
     Check,
+    /// Write why the best macro for the settings that are read is the best.
+    Certify,
+    /// Judge the certificate that follows the settings, without a search.
+    Verify,
 }
 
 impl Command {
@@ -34,6 +38,8 @@ impl Command {
             Command::Sample(_) | Command::Sweep | Command::Check => &["workers", "grain"],
             Command::Resume(_) => RESUME_OPTIONS,
             Command::Replay => &[],
+            Command::Certify => &["workers", "grain"],
+            Command::Verify => &[],
         }
     }
 }

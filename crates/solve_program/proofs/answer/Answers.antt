@@ -7,4 +7,4 @@ use Rattle.solve_program.proofs.answer.Goals as goal
 pub returns-clause-bad_settings : goal.returns-clause-bad_settings
 returns-clause-bad_settings g c is =
     let status = is_bad_settings c.run-status.result (sym c.code.ensures ∙ is) in
-    asked_reader c.args.words.now _ _ _ _ c.run-status.result status (c.run-status.ensures.refused (subst IsRefusal (sym status) tt))
+    asked_reader c.args.words.now _ _ _ _ c.run-status.result status (c.run-status.ensures.ends.refused (subst IsRefusal (sym status) tt))

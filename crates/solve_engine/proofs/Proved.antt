@@ -1,0 +1,41 @@
+-- Inputs of settings and a certificate.
+use Rattle.std.proofs.Common.{◌≤◌, ℕ, List, Result, Ok, Err, IfErr, IfOk, length, inr, sym, subst}
+use Rattle.run_io.specs.Halts.{IsIn}
+use Rattle.run_io.specs.Statuses.{IsResult}
+use Rattle.run_io.specs.declared.answer.Answer.{Answer}
+use Rattle.run_io.specs.declared.halt.Halt.{Halt}
+use Rattle.run_io.specs.declared.halt.Halt.TheVariants.{Refused, BadWords as BadWordsHalt, ReadFault as ReadFaultHalt, WantMemory as WantMemoryHalt}
+use Rattle.run_io.specs.declared.status.Status.{Status}
+use Rattle.run_io.specs.declared.status.Status.TheVariants.{Solved, NoMacro, BadWords, BadSettings, ReadFault, WriteFault, WantMemory, BadPrefix, NotReached, BadMacro, StoppedMacro, NotBest, BadCertificate}
+use Rattle.solve_engine.specs.Verify.{Proof, IsAccepted, IsHaltOfProof, VerifyAnswers}
+use Rattle.solve_engine.specs.declared.verify.TheConstants.{MOST_TEXT}
+use Rattle.solve_engine.proofs.Inputs.{refused_in}
+
+-- a certificate is accepted only in an input that isn't too long
+pub short_proof : (input : List ℕ) (s : Status) (text : List ℕ) → IsResult s → VerifyAnswers input s text → length input ≤ MOST_TEXT
+short_proof input Solved text result row = row.0.parts.few
+short_proof input NoMacro text result row = absurd row
+short_proof input BadWords text result row = absurd result
+short_proof input BadSettings text result row = absurd result
+short_proof input ReadFault text result row = absurd result
+short_proof input WriteFault text result row = absurd result
+short_proof input WantMemory text result row = absurd result
+short_proof input BadPrefix text result row = absurd result
+short_proof input NotReached text result row = absurd row
+short_proof input BadMacro text result row = absurd result
+short_proof input StoppedMacro text result row = absurd row
+short_proof input NotBest text result row = absurd row
+short_proof input BadCertificate text result row = absurd result
+
+-- what is said of the certificate is answered to the input
+pub judged_input : (input : List ℕ) (proof : Proof input) (r : Result Answer Halt)
+    → IfOk r (IsAccepted proof.g proof.parts.rest) → IfErr r (IsHaltOfProof proof.g proof.parts.rest) → IsIn (VerifyAnswers input) r
+judged_input input proof (Ok answer) accepted halts =
+    let row : VerifyAnswers input Solved answer.text.items = (proof, accepted.proof, accepted.is) in
+    let is = sym accepted.solved in
+    (subst IsResult is tt, subst (λ (s : Status). VerifyAnswers input s answer.text.items) is row)
+judged_input input proof (Err BadWordsHalt) accepted halts = absurd halts
+judged_input input proof (Err ReadFaultHalt) accepted halts = absurd halts
+judged_input input proof (Err WantMemoryHalt) accepted halts = tt
+judged_input input proof (Err (Refused refusal)) accepted halts =
+    refused_in (VerifyAnswers input) BadCertificate refusal halts.0 tt (inr (proof, halts.1))

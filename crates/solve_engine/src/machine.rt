@@ -1,0 +1,11 @@
+// What searches run on.
+
+use std::alloc::Global;
+
+/// What searches run on: the runtime with its threads, the allocator, and the gate that workers pass.
+#[derive(Drop)]
+pub(crate) struct Machine<'a, R, G> {
+    pub rt: &'a R,
+    pub alloc: Global,
+    pub gate: &'a G,
+}
