@@ -127,8 +127,8 @@ pub fn stacks_after(action: Action, level: u32, iq: u32, combo: Combo) -> u32
     }
 }
 
-// The combo that an action leaves.
-fn combo_after(combo: Combo, action: Action) -> Combo
+/// The combo that an action leaves after another.
+pub fn combo_after(combo: Combo, action: Action) -> Combo
     ensures { result ≡ next_combo combo action }
 {
     match (combo, action) {

@@ -15,19 +15,19 @@ use Rattle.step_rules.specs.Step.{step_of}
 use Rattle.admissible.specs.Laws.{GoesOn, Finishes}
 use Rattle.admissible.proofs.Reached.{first-step}
 use Rattle.prefix_fronts.specs.Prefix.{AreLimits}
-use Rattle.relaxed_moves.specs.Optimum.{option_le, capped}
+use Rattle.relaxed_moves.specs.Optimum.{option_le, capped, is_enough}
 use Rattle.relaxed_moves.specs.Places.{bit}
-use Rattle.relaxed_moves.proofs.Greatest.{option_le-trans}
+use Rattle.relaxed_moves.proofs.Greatest.{option_le-trans, enough-more}
 use Rattle.priced_moves.specs.declared.kinds.Prices.{Prices}
 use Rattle.priced_moves.specs.declared.kinds.Units.{Units}
 use Rattle.priced_moves.specs.Moves.{SeenFields, AreUnits, AreSmallUnits, seen_of, progress_units}
 use Rattle.priced_moves.proofs.Rounding.{ceiling-more}
 use Rattle.priced_moves.specs.Prices.{spared, worth_of}
-use Rattle.priced_moves.specs.Optimum.{limit_of, is_enough, in_points, best}
+use Rattle.priced_moves.specs.Optimum.{limit_of, in_points, best}
 use Rattle.priced_laws.specs.Laws.{GoesLater}
 use Rattle.priced_laws.proofs.Limits.{limit-step, limit-last, limit-not_less, worth-not_less}
 use Rattle.priced_laws.proofs.Reached.{limit-free}
-use Rattle.priced_laws.proofs.Reaching.{AreLimits-both, enough-more, by-first}
+use Rattle.priced_laws.proofs.Reaching.{AreLimits-both, by-first}
 use Rattle.priced_laws.proofs.Worth.{worth-rest}
 use Rattle.priced_graph.specs.Sights.{sights_of}
 use Rattle.priced_graph.specs.Ties.{cut}

@@ -9,7 +9,8 @@ use Rattle.relaxed_moves.specs.Places.{bit}
 use Rattle.prefix_fronts.specs.Prefix.{Test}
 use Rattle.priced_moves.specs.Moves.{SeenFields, seen_of}
 use Rattle.priced_moves.specs.Prices.{worth_of}
-use Rattle.priced_moves.specs.Optimum.{limit_of, is_enough}
+use Rattle.relaxed_moves.specs.Optimum.{is_enough}
+use Rattle.priced_moves.specs.Optimum.{limit_of}
 use Rattle.priced_graph.specs.Sights.{SightsFields, sights_of}
 use Rattle.priced_bound.specs.Reckoned.{ReckoningFields, AreReckoned}
 use Rattle.priced_bound.specs.declared.reckoning.TheConstants.{MOST_LEFT, MOST_PROMISE}

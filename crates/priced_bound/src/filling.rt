@@ -1,8 +1,7 @@
 // The parts of a table, and what is done with what they tell.
 ghost use Rattle.std.specs.Prelude.{◌≡◌, ◌+◌, ◌*◌, min, IfOk};
 ghost use Rattle.craft_settings.specs.Rules.{cap_of};
-ghost use Rattle.relaxed_moves.specs.Optimum.{option_max};
-ghost use Rattle.priced_moves.specs.Optimum.{is_enough};
+ghost use Rattle.relaxed_moves.specs.Optimum.{option_max, is_enough};
 ghost use Rattle.priced_graph.specs.Sights.{sights_of, node_count};
 ghost use Rattle.priced_bound.specs.Bounds.{is_seen_in};
 ghost use Rattle.priced_bound.specs.Tables.{AreComboLists, IsTableOf};

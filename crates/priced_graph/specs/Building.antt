@@ -3,7 +3,7 @@ use Rattle.std.specs.Prelude.{ℕ, List, [], ◌∷◌, ◌++◌, ◌≡◌, ◌
 use Rattle.priced_moves.specs.declared.kinds.Edge as priced
 use Rattle.walk_table.specs.Graph.{GraphFields, edge_at, first_of}
 use Rattle.priced_graph.specs.Sights.{SightsFields}
-use Rattle.priced_graph.specs.Graphs.{graph_edge, IsOutdone, StandFor}
+use Rattle.priced_graph.specs.Graphs.{graph_edge, IsOutdone, StandFor, AreEdgesOf}
 
 -- the edges of before stand where they stood
 pub record GoesOn (old new : GraphFields) : Type 0 where
@@ -28,4 +28,4 @@ pub record IsNodeAdded (c : SightsFields) (old new : GraphFields) (edges : List 
 pub record IsBuilt (c : SightsFields) (graph : GraphFields) (edges : ℕ → List priced.Edge) (count : ℕ) : Type 0 where
   pub started : length graph.first ≡ count
   pub within : (node : ℕ) → first_of graph node ≤ length graph.edges
-  pub stand : (node : ℕ) → node < count → StandFor c graph (first_of graph node) (first_of graph (node + 1)) (edges node) (length (edges node))
+  pub stand : (node : ℕ) → node < count → AreEdgesOf c graph node (edges node)

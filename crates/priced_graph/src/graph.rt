@@ -1,4 +1,4 @@
-ghost use Rattle.std.specs.Prelude.{ℕ, ◌≡◌, ◌≤◌, ◌<◌, ◌++◌, ◌∷◌, [], true, length, OnOk, IfOk};
+ghost use Rattle.std.specs.Prelude.{ℕ, ◌≡◌, ◌≤◌, ◌<◌, ◌++◌, ◌∷◌, [], ◌↔◌, IsTrue, length, OnOk, IfOk};
 ghost use Rattle.priced_moves.specs.Moves.{AreSmallUnits};
 ghost use Rattle.priced_moves.specs.Prices.{AreFair, AreSmall};
 ghost use Rattle.priced_graph.specs.Building.{IsAdded, IsNodeAdded};
@@ -86,7 +86,7 @@ fn between_nodes(sights: &Sights, edge: &priced_moves::Edge) -> Edge
 // Whether an edge at one of the places from a first on outdoes this one.
 fn is_outdone(graph: &Graph, from: usize, edge: &Edge) -> bool
     requires { from ≤ length graph.now.edges }
-    ensures { result ≡ true → IsOutdone graph.now from (length graph.now.edges) edge.now }
+    ensures { IsTrue result ↔ IsOutdone graph.now from (length graph.now.edges) edge.now }
 {
     for place in from..graph.len() {
         if outdoes(&graph.edge(place), edge) {

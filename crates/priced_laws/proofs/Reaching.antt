@@ -8,26 +8,18 @@ use Rattle.craft_settings.specs.Ranges.{SettingsFields}
 use Rattle.step_rules.specs.Legality.{IsWithin}
 use Rattle.step_rules.specs.Macro.{counted}
 use Rattle.step_rules.specs.Step.{step_of}
-use Rattle.relaxed_moves.specs.Optimum.{option_le}
+use Rattle.relaxed_moves.specs.Optimum.{option_le, is_enough}
+use Rattle.relaxed_moves.proofs.Greatest.{enough-more, enough-some}
 use Rattle.prefix_fronts.specs.Prefix.{Test, AreLimits}
 use Rattle.admissible.proofs.Reached.{first-step}
 use Rattle.priced_moves.specs.declared.kinds.Prices.{Prices}
 use Rattle.priced_moves.specs.declared.kinds.Units.{Units}
 use Rattle.priced_moves.specs.Moves.{AreUnits}
 use Rattle.priced_moves.specs.Prices.{AreFair}
-use Rattle.priced_moves.specs.Optimum.{limit_of, is_enough, reaches}
+use Rattle.priced_moves.specs.Optimum.{limit_of, reaches}
 use Rattle.priced_laws.specs.Laws.{IsDone}
 use Rattle.priced_laws.proofs.Limits.{limit-step, limit-last, limit-not_less}
 use Rattle.priced_laws.proofs.Reached.{limit-steps, limit-run, some-run}
-
--- a greater limit is enough too
-pub enough-more : (target : ℕ) (o o' : Option ℕ) → option_le o o' → is_enough target o ≡ true → is_enough target o' ≡ true
-enough-more target None o' le h = absurd (cc)
-enough-more target (Some a) None le h = absurd le
-enough-more target (Some a) (Some b) le h = le_more target a b h le
-
-enough-some : (target most : ℕ) (o : Option ℕ) → target ≤ most → option_le (Some most) o → is_enough target o ≡ true
-enough-some target most o h le = enough-more target (Some most) o le (le_to target most h)
 
 -- a state passes before the first step
 reaches-first : (p : Prices) (g : SettingsFields) (units : Units) (target j : ℕ) (s : StateFields) → s.effects.first ≡ true → reaches p g units target j s ≡ true

@@ -1,5 +1,5 @@
 -- The edges of a table: from what is seen without a combo, a move or a combo of moves, to what is seen without one.
-use Rattle.std.specs.Prelude.{ℕ, zero, suc, List, [], ◌∷◌, Option, None, ◌+◌, ◌-◌, nat_le, map, if◌then◌else◌}
+use Rattle.std.specs.Prelude.{ℕ, zero, suc, List, [], ◌∷◌, Option, None, ◌+◌, ◌-◌, ◌*◌, ◌≤◌, nat_le, map, if◌then◌else◌}
 use Rattle.std.specs.Option.{option_map}
 use Rattle.std.specs.List.{flat_map}
 use Rattle.action_table.specs.declared.action.Action.{Action}
@@ -9,10 +9,11 @@ use Rattle.relaxed_moves.specs.Optimum.{option_max}
 use Rattle.priced_moves.specs.declared.kinds.Prices.{Prices}
 use Rattle.priced_moves.specs.declared.kinds.Units.{Units}
 use Rattle.priced_moves.specs.declared.kinds.Edge.{Edge}
+use Rattle.priced_moves.specs.declared.kinds.Terms.{Terms}
 use Rattle.priced_moves.specs.declared.kinds.Trail.{Trail}
 use Rattle.priced_moves.specs.FirstMoves.{at_need, without_combo, continuing}
-use Rattle.priced_moves.specs.Moves.{SeenFields, is_move_of, gain_of, shift_of, move_on_of}
-use Rattle.priced_moves.specs.Prices.{price_of}
+use Rattle.priced_moves.specs.Moves.{SeenFields, AreSmallUnits, is_move_of, gain_of, shift_of, move_on_of}
+use Rattle.priced_moves.specs.Prices.{price_of, AreSmall}
 use Rattle.priced_moves.specs.Optimum.{best}
 
 -- the edge of a move, whose combo is let go
@@ -100,3 +101,14 @@ onto trail edge = record {
   shift = trail.shift + edge.shift;
   to = edge.to;
 }
+
+-- a trail costs, gains and shifts no more than so many moves do
+pub record IsShort (moves : ℕ) (trail : Trail) : Type 0 where
+  pub cost : trail.cost ≤ moves * 400000
+  pub gain : trail.gain ≤ moves * 100000
+  pub shift : trail.shift ≤ moves * 500000000
+
+-- the prices and the units are small enough to reckon with
+pub record AreSmallTerms (terms : Terms) : Type 0 where
+  pub prices : AreSmall terms.prices
+  pub units : AreSmallUnits terms.units

@@ -1,10 +1,10 @@
 -- The greatest quality that lists of priced moves gain, and what it says of a state.
-use Rattle.std.specs.Prelude.{ℕ, Bool, false, List, [], ◌∷◌, Option, Some, None, ◌+◌, ◌-◌, ◌*◌, ◌&&◌, ◌||◌, ◌==◌, nat_lt, nat_le, if◌then◌else◌}
+use Rattle.std.specs.Prelude.{ℕ, Bool, List, [], ◌∷◌, Option, Some, None, ◌+◌, ◌-◌, ◌*◌, ◌&&◌, ◌||◌, ◌==◌, nat_lt, nat_le, if◌then◌else◌}
 use Rattle.std.specs.Option.{option_map}
 use Rattle.action_table.specs.declared.action.Action.{Action}
 use Rattle.craft_settings.specs.Ranges.{SettingsFields}
 use Rattle.craft_state.specs.Craft.{StateFields}
-use Rattle.relaxed_moves.specs.Optimum.{greatest, capped}
+use Rattle.relaxed_moves.specs.Optimum.{greatest, capped, is_enough}
 use Rattle.priced_moves.specs.declared.kinds.Prices.{Prices}
 use Rattle.priced_moves.specs.declared.kinds.Units.{Units}
 use Rattle.priced_moves.specs.Moves.{SeenFields, is_move_of, gain_of, move_on_of, seen_of}
@@ -30,11 +30,6 @@ in_points units o = option_map (λ n. units.quality * n) o
 -- the quality that a macro through the state can reach at most, with so many steps left
 unfoldable pub limit_of : Prices → SettingsFields → Units → StateFields → ℕ → Option ℕ
 limit_of p g units s steps = capped g s (in_points units (best p g units (worth_of p s steps) (seen_of g units s)))
-
--- a limit that isn't below the target; None is below every number
-abbrev pub is_enough : ℕ → Option ℕ → Bool
-is_enough target None = false
-is_enough target (Some most) = nat_le target most
 
 -- with so many steps left, the state may still lead to the target: before the first step always, and later where a
 -- step is left and its limit isn't below the target

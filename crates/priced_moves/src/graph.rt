@@ -2,7 +2,7 @@ ghost use Rattle.std.specs.Prelude.{ℕ, ◌∷◌, [], ◌≡◌, ◌≤◌, �
 ghost use Rattle.action_table.specs.declared.action.Action.TheVariants.{StandardTouch, RefinedTouch};
 ghost use Rattle.combo_effects.specs.Combos.{next_combo};
 ghost use Rattle.craft_state.specs.declared.Combo.TheVariants.{NoCombo, Basic};
-ghost use Rattle.priced_moves.specs.Edges.{edges_from, edges_at, edges_of, combo_edges_of, edge_at, walked, start_trail, onto};
+ghost use Rattle.priced_moves.specs.Edges.{edges_from, edges_at, edges_of, combo_edges_of, edge_at, walked, start_trail, onto, IsShort, AreSmallTerms};
 ghost use Rattle.priced_moves.specs.Moves.{AreSmallUnits};
 ghost use Rattle.priced_moves.specs.Prices.{AreSmall};
 
@@ -17,9 +17,7 @@ use std::alloc::Global;
 // No move yet.
 fn start(x: &Seen) -> Trail
     ensures value { result ≡ start_trail x.now }
-    ensures cost { result.cost ≡ 0 }
-    ensures gain { result.gain ≡ 0 }
-    ensures shift { result.shift ≡ 0 }
+    ensures short { IsShort 0 result }
 {
     Trail {
         cost: 0,
@@ -31,15 +29,10 @@ fn start(x: &Seen) -> Trail
 
 // One more move.
 fn walk(terms: &Terms, trail: &Trail, action: Action) -> Trail
-    requires prices { AreSmall terms.now.prices }
-    requires units { AreSmallUnits terms.now.units }
-    requires cost { trail.now.cost ≤ 800000 }
-    requires gain { trail.now.gain ≤ 200000 }
-    requires shift { trail.now.shift ≤ 1000000000 }
+    requires small { AreSmallTerms terms.now }
+    requires short { IsShort 2 trail.now }
     ensures value { result ≡ walked terms.now.prices terms.now.settings terms.now.units trail.now action }
-    ensures cost { result.cost ≤ trail.now.cost + 400000 }
-    ensures gain { result.gain ≤ trail.now.gain + 100000 }
-    ensures shift { result.shift ≤ trail.now.shift + 500000000 }
+    ensures short { (n : ℕ) → IsShort n trail.now → IsShort (n + 1) result }
 {
     let g = &terms.settings;
     let units = &terms.units;
@@ -74,11 +67,8 @@ fn push_last(
     trail: &Trail,
     action: Action,
 ) -> Result<(), WantMemory>
-    requires prices { AreSmall terms.now.prices }
-    requires units { AreSmallUnits terms.now.units }
-    requires cost { trail.now.cost ≤ 800000 }
-    requires gain { trail.now.gain ≤ 200000 }
-    requires shift { trail.now.shift ≤ 1000000000 }
+    requires small { AreSmallTerms terms.now }
+    requires short { IsShort 2 trail.now }
     requires last { next_combo trail.now.at.combo action ≡ NoCombo }
     ensures { (n : ℕ) → OnOk result (edges.new.items ≡ edges.old.items
         ++ map (onto trail.now) (edges_at n terms.now.prices terms.now.settings terms.now.units trail.now.at action)) }
@@ -91,11 +81,8 @@ fn push_last(
 
 // Appends the edges that go on from Basic Touch.
 fn push_basic(edges: &mut Vec<Edge>, terms: &Terms, trail: &Trail) -> Result<(), WantMemory>
-    requires prices { AreSmall terms.now.prices }
-    requires units { AreSmallUnits terms.now.units }
-    requires cost { trail.now.cost ≤ 400000 }
-    requires gain { trail.now.gain ≤ 100000 }
-    requires shift { trail.now.shift ≤ 500000000 }
+    requires small { AreSmallTerms terms.now }
+    requires short { IsShort 1 trail.now }
     requires combo { trail.now.at.combo ≡ Basic }
     ensures { OnOk result (edges.new.items ≡ edges.old.items ++ map (onto trail.now)
         (edges_from 2 terms.now.prices terms.now.settings terms.now.units trail.now.at (StandardTouch ∷ RefinedTouch ∷ []))) }
@@ -107,11 +94,8 @@ fn push_basic(edges: &mut Vec<Edge>, terms: &Terms, trail: &Trail) -> Result<(),
 
 // Appends the edges that begin with Standard Touch after Basic Touch.
 fn push_standard(edges: &mut Vec<Edge>, terms: &Terms, trail: &Trail) -> Result<(), WantMemory>
-    requires prices { AreSmall terms.now.prices }
-    requires units { AreSmallUnits terms.now.units }
-    requires cost { trail.now.cost ≤ 400000 }
-    requires gain { trail.now.gain ≤ 100000 }
-    requires shift { trail.now.shift ≤ 500000000 }
+    requires small { AreSmallTerms terms.now }
+    requires short { IsShort 1 trail.now }
     requires combo { trail.now.at.combo ≡ Basic }
     ensures { OnOk result (edges.new.items ≡ edges.old.items
         ++ map (onto trail.now) (edges_at 1 terms.now.prices terms.now.settings terms.now.units trail.now.at StandardTouch)) }
@@ -126,11 +110,8 @@ fn push_standard(edges: &mut Vec<Edge>, terms: &Terms, trail: &Trail) -> Result<
 
 // Appends the edges that go on from the combo of a trail.
 fn push_combo(edges: &mut Vec<Edge>, terms: &Terms, trail: &Trail) -> Result<(), WantMemory>
-    requires prices { AreSmall terms.now.prices }
-    requires units { AreSmallUnits terms.now.units }
-    requires cost { trail.now.cost ≤ 400000 }
-    requires gain { trail.now.gain ≤ 100000 }
-    requires shift { trail.now.shift ≤ 500000000 }
+    requires small { AreSmallTerms terms.now }
+    requires short { IsShort 1 trail.now }
     ensures { OnOk result (edges.new.items ≡ edges.old.items
         ++ map (onto trail.now) (combo_edges_of terms.now.prices terms.now.settings terms.now.units trail.now.at)) }
 {
@@ -154,8 +135,7 @@ fn push_first(
     x: &Seen,
     action: Action,
 ) -> Result<(), WantMemory>
-    requires prices { AreSmall terms.now.prices }
-    requires units { AreSmallUnits terms.now.units }
+    requires { AreSmallTerms terms.now }
     ensures { OnOk result (edges.new.items ≡ edges.old.items
         ++ edges_at 2 terms.now.prices terms.now.settings terms.now.units x.now action) }
 {

@@ -1,14 +1,14 @@
 ghost use Rattle.std.specs.Prelude.{◌≡◌, ◌≤◌, ◌*◌, true};
-ghost use Rattle.combo_effects.specs.Combos.{next_combo};
-ghost use Rattle.priced_moves.specs.Moves.{AreSmallUnits, progress_units, quality_units, is_listed, is_move_of, seen_of, gain_of, efficiency_of, shift_of, move_on_of};
+ghost use Rattle.relaxed_moves.specs.Moves.{move_gain_of};
+ghost use Rattle.priced_moves.specs.Moves.{AreSmallUnits, plain, progress_units, quality_units, is_listed, is_move_of, seen_of, gain_of, efficiency_of, shift_of, move_on_of};
 
 use crate::kinds::{Seen, Units};
 use crate::prices::is_halved;
 use action_table::{Action, row};
-use combo_effects::{duration, quality_efficiency, stacks_after};
+use combo_effects::{combo_after, duration, quality_efficiency, stacks_after};
 use craft_numbers::{progress_gain, quality_gain};
 use craft_settings::{Settings, allowed};
-use craft_state::{Combo, State};
+use craft_state::State;
 
 // So many points of progress in units, rounded up.
 #[tactic(auto, using(crate::proofs::Rounding::ceilings))]
@@ -33,7 +33,8 @@ fn quality_units(units: &Units, points: u32) -> u32
     points.div_ceil(units.quality)
 }
 
-/// What the bounds see of a state.
+/// What the bounds see of a state of the craft: the progress that is left, in units and rounded up, and the effects that
+/// change gains and prices.
 #[tactic(auto, unfolding(crate::specs::Moves::seen_of))]
 pub fn seen(g: &Settings, units: &Units, s: &State) -> Seen
     requires units { AreSmallUnits units.now }
@@ -80,25 +81,31 @@ pub fn is_move(g: &Settings, x: &Seen, action: Action) -> bool
 }
 
 /// The units of quality that a move gains, 0 for one that isn't a touch.
-#[tactic(auto, using(crate::proofs::Rounding::ceilings), unfolding(crate::specs::Moves::gain_of, relaxed_moves::specs::Moves::move_gain_of))]
+#[tactic(auto, unfolding(crate::specs::Moves::gain_of))]
 pub fn gain(g: &Settings, units: &Units, x: &Seen, action: Action) -> u32
     requires { AreSmallUnits units.now }
     ensures value { result ≡ gain_of g.now units.now x.now action }
     ensures high { result ≤ 100000 }
 {
-    let row = row(action, g.level);
-    let points = if row.quality > 0 {
-        quality_gain(
-            g.base_quality,
-            quality_efficiency(action, g.level, x.iq),
-            x.iq,
-            x.innovation > 0,
-            x.strides,
-        )
-    } else {
-        0
-    };
-    quality_units(units, points)
+    quality_units(units, points(g, x, action))
+}
+
+// The same in points.
+#[tactic(auto, unfolding(relaxed_moves::specs::Moves::move_gain_of))]
+fn points(g: &Settings, x: &Seen, action: Action) -> u32
+    ensures value { result ≡ move_gain_of g.now (plain x.now) action }
+    ensures high { result ≤ 100000 }
+{
+    if row(action, g.level).quality == 0 {
+        return 0;
+    }
+    quality_gain(
+        g.base_quality,
+        quality_efficiency(action, g.level, x.iq),
+        x.iq,
+        x.innovation > 0,
+        x.strides,
+    )
 }
 
 /// The units of progress that a move takes off.
@@ -159,16 +166,5 @@ pub fn move_on(g: &Settings, units: &Units, x: &Seen, action: Action) -> Seen
         muscle: if row.progress > 0 { false } else { x.muscle },
         combo: combo_after(x.combo, action),
         begun: x.begun || g.backload && row.progress > 0,
-    }
-}
-
-// The combo that an action leaves.
-fn combo_after(combo: Combo, action: Action) -> Combo
-    ensures { result ≡ next_combo combo action }
-{
-    match (combo, action) {
-        (_, Action::BasicTouch) => Combo::Basic,
-        (_, Action::Observe) | (Combo::Basic, Action::StandardTouch) => Combo::Standard,
-        _ => Combo::NoCombo,
     }
 }

@@ -95,7 +95,7 @@ fn waste(g: &Settings, cp: u32, step: u32) -> u32
     at_most(allowed(g, Action::WasteNotII), (98 * cp + step) / 8, short)
 }
 
-/// What a move costs after a combo.
+/// What a move costs after a combo, cut to whole coins of these prices.
 #[tactic(auto, using(crate::proofs::Fairness::products), unfolding(crate::specs::Prices::price_of))]
 pub fn price(p: &Prices, g: &Settings, combo: Combo, action: Action) -> u32
     requires { AreSmall p.now }
@@ -142,7 +142,7 @@ fn wear(p: &Prices, fives: u32) -> u32
     whole.min(halved)
 }
 
-/// What the means of a state are worth with so many steps left (at most 300).
+/// What the means of a state are worth with so many steps left (at most 300), cut to whole coins of these prices.
 #[tactic(auto, using(crate::proofs::Fairness::products), unfolding(crate::specs::Prices::worth_of))]
 pub fn worth(p: &Prices, s: &State, steps: u32) -> u32
     requires small { AreSmall p.now }

@@ -10,6 +10,7 @@ use Rattle.craft_settings.specs.Rules.{is_allowed}
 use Rattle.relaxed_moves.specs.Budget.{rho_of, sigma_of, slack_of, cost_of, start_potential_of}
 use Rattle.relaxed_moves.specs.Moves.{RelaxedFields, is_listed, is_move_of, unit_of}
 use Rattle.relaxed_moves.specs.Optimum.{ArePriced, one}
+use Rattle.relaxed_moves.proofs.Products.{rho_times, sigma_times}
 
 pub rho_low : (g : SettingsFields) → AreSettings g → 5 ≤ rho_of g
 unfolding rho_of
@@ -79,7 +80,8 @@ pub slack_high : (g : SettingsFields) → slack_of g ≤ 42
 unfolding slack_of
 slack_high g = if_high (is_allowed g Groundwork) (rho_of g) (rho_high g)
 
-pub ruleset small_weights = (rho_high, sigma_high, slack_high)
+-- what keeps the sums of costs and of the potential in their ranges
+pub ruleset weighing = (rho_times, sigma_times, rho_high, sigma_high, slack_high)
 
 -- no potential is above 1378
 pub start_small : (g : SettingsFields) → AreSettings g → start_potential_of g ≤ 1378

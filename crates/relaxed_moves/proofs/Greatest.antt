@@ -1,10 +1,11 @@
 -- The greatest value over all lists of actions of a length.
-use Rattle.std.proofs.Common.{ℕ, zero, suc, List, [], ◌∷◌, Option, Some, None, ◌≡◌, ◌≤◌, ◌<◌, ◌⊎◌, inl, inr, ◌++◌, ◌∙◌, max, length, get_or, refl, ap, sym, subst, arith}
+use Rattle.std.proofs.Common.{ℕ, zero, suc, List, [], ◌∷◌, Option, Some, None, true, ◌≡◌, ◌≤◌, ◌<◌, ◌⊎◌, inl, inr, ◌++◌, ◌∙◌, max, length, get_or, refl, ap, sym, subst, arith}
 use Rattle.action_table.specs.declared.action.Action.{Action}
 use Rattle.action_table.specs.declared.action.Action.TheVariants.{BasicSynthesis}
 use Rattle.action_table.specs.Table.{number_of, all_actions}
 use Rattle.action_table.proofs.Names.{get_or-number_of, number_below}
-use Rattle.relaxed_moves.specs.Optimum.{option_le, option_max, greatest_each, greatest}
+use Rattle.relaxed_moves.specs.Optimum.{option_le, option_max, is_enough, greatest_each, greatest}
+use Rattle.plain_lemmas.proofs.Tests.{le_to, le_more}
 
 pub option_le-refl : (a : Option ℕ) → option_le a a
 option_le-refl None = tt
@@ -37,6 +38,15 @@ option_max-least None b c h k = k
 option_max-least (Some a) None c h k = h
 option_max-least (Some a) (Some b) None h k = h
 option_max-least (Some a) (Some b) (Some c) h k = omega arith
+
+-- what has no less than one that is enough is enough too
+pub enough-more : (target : ℕ) (o o' : Option ℕ) → option_le o o' → is_enough target o ≡ true → is_enough target o' ≡ true
+enough-more target None o' le h = absurd (cc)
+enough-more target (Some a) None le h = absurd le
+enough-more target (Some a) (Some b) le h = le_more target a b h le
+
+pub enough-some : (target most : ℕ) (o : Option ℕ) → target ≤ most → option_le (Some most) o → is_enough target o ≡ true
+enough-some target most o h le = enough-more target (Some most) o le (le_to target most h)
 
 -- one of the two is the greater
 pub option_max-either : (a b : Option ℕ) (v : ℕ) → option_max a b ≡ Some v → (a ≡ Some v) ⊎ (b ≡ Some v)

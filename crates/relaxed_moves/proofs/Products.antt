@@ -27,3 +27,5 @@ bucket_below progress r grain u positive left covers =
     let turned = mul_comm u grain in
     let below : r / u < grain + 1 = div_below r u (grain + 1) positive (omega arith) in
     omega arith
+
+pub ruleset buckets = (unit_covers, bucket_below)

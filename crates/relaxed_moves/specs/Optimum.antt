@@ -44,6 +44,11 @@ option_le None _ = Unit {0}
 option_le (Some a) None = ⊥
 option_le (Some a) (Some b) = a ≤ b
 
+-- a greatest gain that isn't below the target; None is below every number
+abbrev pub is_enough : ℕ → Option ℕ → Bool
+is_enough target None = false
+is_enough target (Some most) = nat_le target most
+
 -- the greater of two
 abbrev pub option_max : Option ℕ → Option ℕ → Option ℕ
 option_max None b = b

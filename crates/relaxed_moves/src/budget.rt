@@ -79,7 +79,7 @@ pub fn potential(g: &Settings, s: &State) -> u32
 }
 
 /// The same as `potential`, by the weights of the craft, which a search makes once.
-#[tactic(auto, using(crate::proofs::Products::products, crate::proofs::Costs::small_weights), unfolding(crate::specs::Budget::potential_of))]
+#[tactic(auto, using(crate::proofs::Costs::weighing), unfolding(crate::specs::Budget::potential_of))]
 pub fn potential_by(g: &Settings, weights: &Weights, s: &State) -> u32
     requires { AreWeights g.now weights.now }
     ensures value { result ≡ potential_of g.now s.now }
@@ -130,7 +130,7 @@ pub fn move_cost(g: &Settings, action: Action) -> u32
 }
 
 /// The same as `move_cost`, by the weights of the craft, which a search makes once.
-#[tactic(auto, using(crate::proofs::Products::products, crate::proofs::Costs::small_weights), unfolding(crate::specs::Budget::cost_of))]
+#[tactic(auto, using(crate::proofs::Costs::weighing), unfolding(crate::specs::Budget::cost_of))]
 pub fn move_cost_by(g: &Settings, weights: &Weights, action: Action) -> u32
     requires weights { AreWeights g.now weights.now }
     requires listed { IsTrue (is_listed g.now action) }

@@ -1,6 +1,6 @@
 ghost use Rattle.std.specs.Prelude.{◌≡◌, ◌≤◌, ◌-◌, ◌*◌, ◌/◌, IsTrue, true, nat_lt};
 ghost use Rattle.craft_numbers.specs.Gains.{progress_gain_of};
-ghost use Rattle.relaxed_moves.specs.Moves.{is_listed, is_move_of, unit_of, relax_of, move_gain_of, move_on_of};
+ghost use Rattle.relaxed_moves.specs.Moves.{is_listed, is_move_of, unit_of, relax_of, move_gain_of, move_innovation, move_veneration, move_strides, move_on_of};
 
 use crate::kinds::Relaxed;
 use action_table::{Action, row};
@@ -62,8 +62,8 @@ pub fn relax(g: &Settings, grain: u32, s: &State) -> Relaxed
     relax_by(g, grain, unit(g, grain), s)
 }
 
-/// What the bounds see of a state, by the progress of a bucket.
-#[tactic(auto, using(crate::proofs::Products::bucket_below, crate::proofs::Products::unit_covers), unfolding(crate::specs::Moves::relax_of, crate::specs::Moves::unit_of))]
+/// The same as `relax`, where `unit` is the progress of a bucket in points, as `unit` gives it, which a search makes once.
+#[tactic(auto, using(crate::proofs::Products::buckets), unfolding(crate::specs::Moves::relax_of, crate::specs::Moves::unit_of))]
 pub fn relax_by(g: &Settings, grain: u32, unit: u32, s: &State) -> Relaxed
     requires low { 1 ≤ grain }
     requires high { grain ≤ 64 }
@@ -133,20 +133,44 @@ pub fn move_on_by(g: &Settings, grain: u32, unit: u32, x: &Relaxed, action: Acti
         } else {
             x.iq
         },
-        innovation: match action {
-            Action::Innovation => duration(action),
-            _ => x.innovation.saturating_sub(1),
-        },
-        veneration: match action {
-            Action::Veneration => duration(action),
-            _ => x.veneration.saturating_sub(1),
-        },
-        strides: match action {
-            Action::GreatStrides => true,
-            _ if row.quality > 0 => false,
-            _ => x.strides,
-        },
+        innovation: move_innovation(x.innovation, action),
+        veneration: move_veneration(x.veneration, action),
+        strides: move_strides(g, x.strides, action),
         muscle: if row.progress > 0 { false } else { x.muscle },
+    }
+}
+
+// The steps of Innovation after a move, of the 4 at most that were left before it.
+fn move_innovation(left: u32, action: Action) -> u32
+    requires { left ≤ 4 }
+    ensures value { result ≡ move_innovation left action }
+    ensures high { result ≤ 4 }
+{
+    match action {
+        Action::Innovation => duration(action),
+        _ => left.saturating_sub(1),
+    }
+}
+
+// The steps of Veneration after a move, of the 4 at most that were left before it.
+fn move_veneration(left: u32, action: Action) -> u32
+    requires { left ≤ 4 }
+    ensures value { result ≡ move_veneration left action }
+    ensures high { result ≤ 4 }
+{
+    match action {
+        Action::Veneration => duration(action),
+        _ => left.saturating_sub(1),
+    }
+}
+
+// Whether Great Strides waits for a touch after a move, where it did before it or not.
+fn move_strides(g: &Settings, waits: bool, action: Action) -> bool
+    ensures { result ≡ move_strides g.now waits action }
+{
+    match action {
+        Action::GreatStrides => true,
+        _ => waits && row(action, g.level).quality == 0,
     }
 }
 

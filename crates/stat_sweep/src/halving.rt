@@ -1,9 +1,9 @@
 // The search for the least base quality that is enough.
-ghost use Rattle.std.specs.Prelude.{◌≡◌, ◌≤◌, ◌<◌, ◌+◌, ◌*◌, IfOk, MatchOption};
+ghost use Rattle.std.specs.Prelude.{◌≡◌, ◌≤◌, ◌<◌, ◌+◌, ◌-◌, ◌*◌, ◌/◌, IfOk, MatchOption};
 ghost use Rattle.macro_order.specs.Order.{IsBest, NothingCompletes, score_of};
 ghost use Rattle.stat_sweep.specs.Bases.{with_base, IsEnough};
 ghost use Rattle.stat_sweep.specs.Sweeping.{IsSwept};
-ghost use Rattle.stat_sweep.specs.Halving.{IsTried, is_full};
+ghost use Rattle.stat_sweep.specs.Halving.{IsTried, is_full, scaled_of, expected_of};
 
 use crate::plan::Plan;
 use crate::solver::Solver;
@@ -138,6 +138,7 @@ fn next_base(g: &Settings, range: &Range, room: u32) -> u32
 fn expected(g: &Settings, range: &Range) -> u32
     requires order { range.now.low < range.now.high }
     requires most { range.now.high ≤ MOST_BASE }
+    ensures { result ≡ expected_of g.now range.now.low (range.now.low + (range.now.high - range.now.low) / 2) range.now.below }
 {
     let middle = range.low + (range.high - range.low) / 2;
     let Some(plan) = &range.below else {
@@ -156,6 +157,7 @@ fn expected(g: &Settings, range: &Range) -> u32
 // A base quality that is as much greater as all quality that counts is than a quality, each without the initial one.
 fn scaled(g: &Settings, base: u32, quality: u32) -> u32
     requires { base ≤ MOST_BASE }
+    ensures { result ≡ scaled_of g.now base quality }
 {
     let wanted = g.cap().saturating_sub(g.initial) as u64;
     let gained = quality.saturating_sub(g.initial).max(1) as u64;

@@ -132,6 +132,25 @@ top-begin g b e n place low = record {
       | inr ge ↦ let none = before-no g b e n place k rest ge in omega arith
     ]
 
+-- a bound of the words below a place bounds those below the next one, if it bounds those that begin there
+before-next : (g : GraphFields) (b e n place v bound : ℕ) → v ≤ bound → ((w : List ℕ) → word_before g b e n place w ≤ v)
+    → ((rest : List ℕ) → word_before g b e n (place + 1) (place ∷ rest) ≤ bound)
+    → (w : List ℕ) → word_before g b e n (place + 1) w ≤ bound
+before-next g b e n place v bound more old own [] = let small = old [] in omega arith
+before-next g b e n place v bound more old own (k ∷ rest) = elim (cases_lt k place) [
+  | inl lt ↦
+      let one = before-yes g b e n place k rest lt in
+      let two = before-yes g b e n (place + 1) k rest (omega arith) in
+      let small = old (k ∷ rest) in
+      omega arith
+  | inr ge ↦ elim (cases_lt k (place + 1)) [
+    | inl lt ↦
+        let same : place ≡ k = omega arith in
+        subst (λ (m : ℕ). word_before g b e n (place + 1) (m ∷ rest) ≤ bound) same (own rest)
+    | inr gt ↦ let none = before-no g b e n (place + 1) k rest gt in omega arith
+  ]
+]
+
 pub top-step : (g : GraphFields) (b e n place v src : ℕ) → first_of g e ≤ place → place < first_of g (e + 1) → (edge_at g place).cost ≤ b
     → IsTop (word_before g b e n place) v
     → IsTop (word_of g (b - (edge_at g place).cost) (edge_at g place).to (n - (edge_at g place).shift)) src
@@ -156,45 +175,16 @@ top-step g b e n place v src low high paid top source = record {
     first rest = before-yes g b e n (place + 1) place rest (omega arith) ∙ word-cons g b e n place rest low high paid
 
     up : (w : List ℕ) → word_before g b e n (place + 1) w ≤ max v (raised gain src)
-    up [] = let old = top.upper [] in omega arith
-    up (k ∷ rest) = elim (cases_lt k place) [
-      | inl lt ↦
-          let one = before-yes g b e n place k rest lt in
-          let two = before-yes g b e n (place + 1) k rest (omega arith) in
-          let old = top.upper (k ∷ rest) in
-          omega arith
-      | inr ge ↦ elim (cases_lt k (place + 1)) [
-        | inl lt ↦
-            let same : place ≡ k = omega arith in
-            subst (λ (m : ℕ). word_before g b e n (place + 1) (m ∷ rest) ≤ max v (raised gain src)) same
-            (let is = first rest in let small = raised-le gain (rests rest) src (source.upper rest) in omega arith)
-        | inr gt ↦ let none = before-no g b e n (place + 1) k rest gt in omega arith
-      ]
-    ]
+    up = before-next g b e n place v (max v (raised gain src)) (omega arith) top.upper
+        (λ rest. let is = first rest in let small = raised-le gain (rests rest) src (source.upper rest) in omega arith)
 
 pub top-costly : (g : GraphFields) (b e n place v : ℕ) → b < (edge_at g place).cost
     → IsTop (word_before g b e n place) v → IsTop (word_before g b e n (place + 1)) v
 top-costly g b e n place v more top = record {
-  upper = up;
+  upper = before-next g b e n place v v (omega arith) top.upper (λ rest.
+      let is = before-yes g b e n (place + 1) place rest (omega arith) in let none = word-costly g b e n place rest more in omega arith);
   least = λ bound h. top.least bound (λ w. let wider = before-more g b e n place w in let fits = h w in omega arith);
 }
-  where
-    up : (w : List ℕ) → word_before g b e n (place + 1) w ≤ v
-    up [] = top.upper []
-    up (k ∷ rest) = elim (cases_lt k place) [
-      | inl lt ↦
-          let one = before-yes g b e n place k rest lt in
-          let two = before-yes g b e n (place + 1) k rest (omega arith) in
-          let old = top.upper (k ∷ rest) in
-          omega arith
-      | inr ge ↦ elim (cases_lt k (place + 1)) [
-        | inl lt ↦
-            let same : place ≡ k = omega arith in
-            subst (λ (m : ℕ). word_before g b e n (place + 1) (m ∷ rest) ≤ v) same
-            (let is = before-yes g b e n (place + 1) place rest (omega arith) in let none = word-costly g b e n place rest more in omega arith)
-        | inr gt ↦ let none = before-no g b e n (place + 1) k rest gt in omega arith
-      ]
-    ]
 
 pub top-end : (g : GraphFields) (b e n place v : ℕ) → first_of g (e + 1) ≤ place → IsTop (word_before g b e n place) v → IsTop (word_of g b e n) v
 top-end g b e n place v past top = record {
