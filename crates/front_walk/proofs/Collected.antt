@@ -1,15 +1,18 @@
 -- One more turn of a loop that collects children.
-use Rattle.std.proofs.Common.{◌≡◌, ◌∙◌, sym, ℕ, ◌+◌, ◌<◌, ◌≤◌, List, [], ◌∷◌, ◌++◌, append_assoc, append-nil, Bool, Option, Some, None, length, take, get_or, arith, refl, ap}
+use Rattle.std.proofs.Common.{◌≡◌, ◌∙◌, sym, ℕ, ◌+◌, ◌<◌, ◌≤◌, List, [], ◌∷◌, ◌++◌, append_assoc, append-nil, Bool, Option, Some, None, length, take, get_or, inl, inr, arith, refl, ap}
 use Rattle.std.specs.List.{filter_map, flat_map, enumerate_from}
 use Rattle.std.proofs.lemmas.List.{take_more, take_all}
 use Rattle.std.proofs.lemmas.List.Elements.{filter_map-append}
 use Rattle.std.proofs.lemmas.List.Concat.{flat_map-append}
 use Rattle.std.proofs.lemmas.List.FromFn.{length-enumerate_from, get_or-enumerate_from}
 use Rattle.action_table.specs.declared.action.Action.{Action}
+use Rattle.action_table.specs.Table.{action_seconds}
 use Rattle.craft_state.specs.Craft.{StateFields}
 use Rattle.craft_settings.specs.Ranges.{SettingsFields}
+use Rattle.step_rules.specs.Step.{step_of}
+use Rattle.plain_lemmas.proofs.Tests.{bool_cases}
 use Rattle.pareto_front.specs.declared.node.Node.{Node}
-use Rattle.front_walk.specs.Nodes.{children_by, nodes_by, nodes_upto}
+use Rattle.front_walk.specs.Nodes.{child_by, children_by, next_by, nodes_by, nodes_upto}
 
 -- what one element more gives
 collected : {X Y : Type 0} (h : X → Option Y) (xs : List X) (i : ℕ) (d : X) (before : List Y) → i < length xs →
@@ -29,6 +32,27 @@ pub collect_none : {X Y : Type 0} (h : X → Option Y) (xs : List X) (i : ℕ) (
 collect_none {X} {Y} h xs i d before found below so here =
     let none : filter_map h (get_or xs i d ∷ []) ≡ [] = rw here refl in
     so ∙ sym (append-nil _) ∙ ap (λ (l : List Y). (before ++ filter_map h (take i xs)) ++ l) (sym none) ∙ sym (collected h xs i d before below)
+
+-- a child is there where the state after the action is
+pub child-some : (g : SettingsFields) (t : StateFields → Action → Bool) (place : ℕ) (n m : Node) (a : Action) (s : StateFields) (time : ℕ) → next_by g t n.state a ≡ Some s →
+    time ≡ action_seconds a → m ≡ record { state = s; seconds = n.seconds + time; parent = place; action = a } → child_by g t place n a ≡ Some m
+unfolding next_by child_by
+child-some g t place n m a s time h long is =
+    elim (bool_cases (t n.state a)) [
+      | inl held ↦
+          let after : Some (step_of g n.state a) ≡ Some s = rw held at h in
+          let same : step_of g n.state a ≡ s = cc in
+          rw held (ap (λ (x : Node). Some x) ((λ i. record { state = same i; seconds = n.seconds + sym long i; parent = place; action = a }) ∙ sym is))
+      | inr fails ↦ let none : None ≡ Some s = rw fails at h in absurd (cc none)
+    ]
+
+pub child-none : (g : SettingsFields) (t : StateFields → Action → Bool) (place : ℕ) (n : Node) (a : Action) → next_by g t n.state a ≡ None → child_by g t place n a ≡ None
+unfolding next_by child_by
+child-none g t place n a h =
+    elim (bool_cases (t n.state a)) [
+      | inl held ↦ let some : Some (step_of g n.state a) ≡ None = rw held at h in absurd (cc some)
+      | inr fails ↦ rw fails refl
+    ]
 
 -- the children of no node, and of all
 pub nodes_upto-none : (g : SettingsFields) (t : StateFields → Action → Bool) (nodes : List Node) (count : ℕ) → count ≡ 0 → nodes_upto g t nodes count ≡ []

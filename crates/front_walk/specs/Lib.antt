@@ -1,4 +1,5 @@
 pub mod Asking
+pub mod Near
 pub mod Nodes
 pub mod Passing
 pub mod Walking

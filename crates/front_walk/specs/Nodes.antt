@@ -12,6 +12,8 @@ use Rattle.prefix_fronts.specs.Prefix.{Test, goes_on}
 use Rattle.pareto_front.specs.declared.node.Node.{Node}
 use Rattle.pareto_front.specs.Covers.{uncovered}
 use Rattle.front_walk.specs.declared.links.Link.{Link}
+use Rattle.front_walk.specs.declared.links.Ways.{Ways}
+use Rattle.front_walk.specs.declared.links.Ways.TheVariants.{Near, Far}
 
 -- the state is one of the craft that a test may be asked of, and the seconds are few
 pub record IsNode (g : SettingsFields) (allows : StateFields → Bool) (n : Node) : Type 0 where
@@ -24,6 +26,10 @@ root_node s = record { state = s; seconds = 0; parent = 0; action = BasicSynthes
 
 abbrev pub child_node : SettingsFields → ℕ → Node → Action → Node
 child_node g place n a = record { state = step_of g n.state a; seconds = n.seconds + action_seconds a; parent = place; action = a }
+
+-- the state after an action that passes a test
+unfoldable pub next_by : SettingsFields → (StateFields → Action → Bool) → StateFields → Action → Option StateFields
+next_by g test s a = if test s a then Some (step_of g s a) else None
 
 -- the child by an action that passes a test
 unfoldable pub child_by : SettingsFields → (StateFields → Action → Bool) → ℕ → Node → Action → Option Node
@@ -73,6 +79,11 @@ soonest_of (x ∷ xs) = Some (soonest_from x xs)
 -- the way back from a node
 abbrev pub link_of : Node → Link
 link_of n = record { parent = n.parent; action = n.action }
+
+-- the ways back from the nodes of a level
+abbrev pub links_in : Ways → List Link
+links_in (Near links) = links.items
+links_in (Far links) = links.items
 
 -- the actions that lead to a link of level k
 unfoldable pub actions_to : List (List Link) → ℕ → Link → List Action

@@ -1,10 +1,12 @@
 // The children of the nodes of a level that go on and pass.
-ghost use Rattle.std.specs.Prelude.{◌≡◌, ◌≤◌, ◌++◌, IfOk, OnOk, length};
-ghost use Rattle.front_walk.specs.Nodes.{IsNode, child_by, children_by, nodes_upto, goes_and_passes};
+ghost use Rattle.std.specs.Prelude.{◌≡◌, ◌≤◌, ◌++◌, IfOk, OnOk, length, true};
+ghost use Rattle.step_rules.specs.Legality.{IsWithin};
+ghost use Rattle.front_walk.specs.Nodes.{IsNode, children_by, next_by, nodes_upto, goes_and_passes};
 
 use crate::state_test::StateTest;
 use crate::walk::Stage;
 use action_table::{Action, WantMemory};
+use craft_state::State;
 use pareto_front::{Node, PackedNode};
 use std::alloc::Global;
 use step_rules::{check, is_final, step};
@@ -50,41 +52,41 @@ fn push_children<T: StateTest>(
         ≡ found.old.items ++ children_by w.g.now (goes_and_passes w.g.now (T.passes w.test.now) stage.now.left) place node.now) }
 {
     for &action in Action::ALL.iter() {
-        if let Some(next) = child(stage, place, node, action, asker) {
-            found.push(PackedNode::of(&next))?;
+        if let Some(state) = next_state(stage, &node.state, action, asker) {
+            found.push(PackedNode::of(&Node {
+                state,
+                seconds: node.seconds + action.seconds(),
+                parent: place,
+                action,
+            }))?;
         }
     }
     Ok(())
 }
 
-// The child by an action, if it goes on and passes.
-#[tactic(auto, unfolding(crate::specs::Nodes::child_by))]
-fn child<T: StateTest>(
+// The state after an action, if the craft goes on and it passes. No node is made of one that doesn't.
+#[tactic(auto, unfolding(crate::specs::Nodes::next_by))]
+fn next_state<T: StateTest>(
     stage: &Stage<'_, T>,
-    place: usize,
-    node: &Node,
+    state: &State,
     action: Action,
     asker: &mut T::Asker,
-) -> Option<Node>
+) -> Option<State>
     requires asker { T.may_ask stage.now.walk.now.test.now asker.old }
-    requires node { IsNode stage.now.walk.now.g.now (T.allows stage.now.walk.now.test.now) node.now }
+    requires within { IsWithin stage.now.walk.now.g.now state.now }
+    requires allowed { T.allows stage.now.walk.now.test.now state.now ≡ true }
     ensures asker { T.may_ask stage.now.walk.now.test.now asker.new }
     ensures still { T.still_asks asker.old asker.new }
     ensures value { let w = stage.now.walk.now in
-        result ≡ child_by w.g.now (goes_and_passes w.g.now (T.passes w.test.now) stage.now.left) place node.now action }
+        result ≡ next_by w.g.now (goes_and_passes w.g.now (T.passes w.test.now) stage.now.left) state.now action }
 {
     let walk = stage.walk;
-    if check(walk.g, &node.state, action).is_err() {
+    if check(walk.g, state, action).is_err() {
         return None;
     }
-    let state = step(walk.g, &node.state, action);
-    if is_final(walk.g, &state) || !walk.test.passes(asker, stage.left, &state) {
+    let next = step(walk.g, state, action);
+    if is_final(walk.g, &next) || !walk.test.passes(asker, stage.left, &next) {
         return None;
     }
-    Some(Node {
-        state,
-        seconds: node.seconds + action.seconds(),
-        parent: place,
-        action,
-    })
+    Some(next)
 }

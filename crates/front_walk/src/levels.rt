@@ -2,10 +2,10 @@
 ghost use Rattle.std.specs.Prelude.{◌≡◌, ◌≤◌, ◌-◌, IfOk, IsTrue, All, map};
 ghost use Rattle.pareto_front.specs.Covers.{uncovered};
 ghost use Rattle.front_walk.specs.Asking.{AllMayAsk, AllStillAsk};
-ghost use Rattle.front_walk.specs.Nodes.{AreLinks, IsLevel, IsNode, goes_and_passes, link_of, nodes_by};
+ghost use Rattle.front_walk.specs.Nodes.{AreLinks, IsLevel, IsNode, goes_and_passes, link_of, links_in, nodes_by};
 
 use crate::expanding::{expand, first_level};
-use crate::links::{Link, links_of};
+use crate::links::{Ways, links_of};
 use crate::state_test::StateTest;
 use crate::walk::{Stage, Walk};
 use crate::walker::Walker;
@@ -19,7 +19,7 @@ use worker_gate::{Crew, Gate};
 /// each.
 #[derive(Drop)]
 pub(crate) struct Levels {
-    pub(crate) links: Vec<Vec<Link>>,
+    pub(crate) links: Vec<Ways>,
     pub(crate) last: Vec<PackedNode>,
     pub(crate) sizes: Vec<u64>,
 }
@@ -37,7 +37,7 @@ pub(crate) fn levels_below<T: StateTest, R: Threads + Sync, G: Gate>(
     ensures askers { AllMayAsk (T.may_ask walk.now.test.now) crew.new.workers }
     ensures still { AllStillAsk T.still_asks crew.old.workers crew.new.workers }
     ensures links { let w = walk.now in
-        IfOk result (λ r. IsTrue keeps_ways → AreLinks w.g.now w.from.now (T.passes w.test.now) n (n - 1) (map (λ v. v.items) r.links.items)) }
+        IfOk result (λ r. IsTrue keeps_ways → AreLinks w.g.now w.from.now (T.passes w.test.now) n (n - 1) (map links_in r.links.items)) }
     ensures level { let w = walk.now in
         IfOk result (λ r. IsLevel w.g.now w.from.now (T.passes w.test.now) n (n - 1) r.last.items r.sizes.items) }
 {
@@ -55,13 +55,13 @@ pub(crate) fn levels_below<T: StateTest, R: Threads + Sync, G: Gate>(
 }
 
 // The ways back from the nodes of a level, or nothing.
-fn ways_of(alloc: Global, level: &[PackedNode], keeps_ways: bool) -> Result<Vec<Link>, WantMemory>
-    ensures { IfOk result (λ links. IsTrue keeps_ways → links.items ≡ map link_of level.now) }
+fn ways_of(alloc: Global, level: &[PackedNode], keeps_ways: bool) -> Result<Ways, WantMemory>
+    ensures { IfOk result (λ ways. IsTrue keeps_ways → links_in ways ≡ map link_of level.now) }
 {
     if keeps_ways {
         links_of(alloc, level)
     } else {
-        Ok(Vec::new(alloc))
+        Ok(Ways::Near(Vec::new(alloc)))
     }
 }
 

@@ -4,7 +4,7 @@
 ghost use Rattle.std.specs.Prelude.{◌≡◌, ◌≤◌, ◌-◌, [], IfOk, IfSome, MatchOption, map};
 ghost use Rattle.prefix_fronts.specs.Prefix.{completions};
 ghost use Rattle.front_walk.specs.Asking.{AllMayAsk, AllStillAsk};
-ghost use Rattle.front_walk.specs.Nodes.{AreLinks, IsLevel};
+ghost use Rattle.front_walk.specs.Nodes.{AreLinks, IsLevel, links_in};
 ghost use Rattle.front_walk.specs.Walking.{IsSoonestCompletion, sizes_below};
 
 mod children;
@@ -89,7 +89,7 @@ fn last_step<T: StateTest>(
 ) -> Result<Option<Completion>, WantMemory>
     requires some { 1 ≤ n }
     requires links { let w = walk.now in
-        AreLinks w.g.now w.from.now (T.passes w.test.now) n (n - 1) (map (λ v. v.items) levels.links.items) }
+        AreLinks w.g.now w.from.now (T.passes w.test.now) n (n - 1) (map links_in levels.links.items) }
     requires level { let w = walk.now in
         IsLevel w.g.now w.from.now (T.passes w.test.now) n (n - 1) levels.last.items levels.sizes.items }
     ensures best { let w = walk.now in let passes = T.passes w.test.now in

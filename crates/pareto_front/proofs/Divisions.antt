@@ -13,11 +13,11 @@ use Rattle.plain_lemmas.proofs.Places.{Contains-Among, Among-Contains}
 use Rattle.pareto_front.proofs.Vectors.{length-items}
 
 -- no nodes, and empty parts
-pub parts-empty : (level : List Node) (parts : List (List Entry)) → ((g : ℕ) → get_or parts g [] ≡ []) → AreParts level 0 parts
-parts-empty level parts empty = record {
-  effects = λ j n below at. absurd (omega (arith, below));
+pub parts-empty : (level : List Node) (from : ℕ) (parts : List (List Entry)) → ((g : ℕ) → get_or parts g [] ≡ []) → AreParts level from from parts
+parts-empty level from parts empty = record {
+  effects = λ j n up below at. absurd (omega (arith, up, below));
   entries = λ g e h. absurd (none e (subst (λ (l : List Entry). Contains l e) (empty g) h));
-  whole = λ j n below at. absurd (omega (arith, below));
+  whole = λ j n up below at. absurd (omega (arith, up, below));
 } where
   none : (e : Entry) → Contains [] e → ⊥
   none e h = absurd (omega (arith, h.1))
@@ -39,12 +39,12 @@ older : (level : List Node) (count : ℕ) (e : Entry) → IsEntry level count e 
 older level count e is = record { node = is.node; below = omega (arith, is.below); at = is.at; is = is.is }
 
 -- the next node joins the part of its key
-pub parts-more : (level : List Node) (count : ℕ) (parts : List (List Entry)) (i : ℕ) (n : Node) → count < length level → n ≡ get_or level count n → AreEffects n.state.effects →
-    i < length parts → i ≡ part_of (key_of n.state) (length parts) → AreParts level count parts →
-    AreParts level (count + 1) (set parts i (get_or parts i [] ++ entry_of count n ∷ []))
-parts-more level count parts i n inside at bounds low is are = record {
-  effects = λ j m below stands. elim (below_or_at j count below) [
-    | inl old ↦ are.effects j m old stands
+pub parts-more : (level : List Node) (from count : ℕ) (parts : List (List Entry)) (i : ℕ) (n : Node) → count < length level → n ≡ get_or level count n → AreEffects n.state.effects →
+    i < length parts → i ≡ part_of (key_of n.state) (length parts) → AreParts level from count parts →
+    AreParts level from (count + 1) (set parts i (get_or parts i [] ++ entry_of count n ∷ []))
+parts-more level from count parts i n inside at bounds low is are = record {
+  effects = λ j m up below stands. elim (below_or_at j count below) [
+    | inl old ↦ are.effects j m up old stands
     | inr here ↦ subst (λ (x : Node). AreEffects x.state.effects) (sym (node_at m (subst (λ (p : ℕ). m ≡ get_or level p m) here stands))) bounds
   ];
   entries = λ g e h. elim (member g e h) [
@@ -54,9 +54,9 @@ parts-more level count parts i n inside at bounds low is are = record {
       new.0 ∙ is ∙ ap (λ (x : Entry). part_of x.key (length parts)) new.1 ∙ ap (part_of e.key) (sym long),
     )
   ];
-  whole = λ j m below stands. subst (λ (c : ℕ). Contains (get_or (set parts i grown) (part_of (key_of m.state) c) []) (entry_of j m)) (sym long)
+  whole = λ j m up below stands. subst (λ (c : ℕ). Contains (get_or (set parts i grown) (part_of (key_of m.state) c) []) (entry_of j m)) (sym long)
       (elim (below_or_at j count below) [
-        | inl old ↦ keep (part_of (key_of m.state) (length parts)) (entry_of j m) (are.whole j m old stands)
+        | inl old ↦ keep (part_of (key_of m.state) (length parts)) (entry_of j m) (are.whole j m up old stands)
         | inr here ↦
             let same : m ≡ n = node_at m (subst (λ (p : ℕ). m ≡ get_or level p m) here stands) in
             let mine : Contains (get_or (set parts i grown) (part_of (key_of n.state) (length parts)) []) (entry_of count n) =
@@ -96,14 +96,14 @@ parts-more level count parts i n inside at bounds low is are = record {
   ]
 
 -- the same of parts in vectors
-pub parts-step : {A : Type 0} (level : List Node) (count most : ℕ) (parts later : List (Vec Entry A)) (i : ℕ) (n : Node) (e : Entry) → count < length level → n ≡ get_or level count n → AreEffects n.state.effects →
-    length parts ≡ most → i < most → i ≡ part_of e.key most → e ≡ entry_of count n → items_of later ≡ set (items_of parts) i (get_or (items_of parts) i [] ++ e ∷ []) → AreParts level count (items_of parts) →
-    (length later ≡ most) × AreParts level (count + 1) (items_of later)
-parts-step level count most parts later i n e inside at bounds long low is entry grown are =
+pub parts-step : {A : Type 0} (level : List Node) (from count most : ℕ) (parts later : List (Vec Entry A)) (i : ℕ) (n : Node) (e : Entry) → count < length level → n ≡ get_or level count n → AreEffects n.state.effects →
+    length parts ≡ most → i < most → i ≡ part_of e.key most → e ≡ entry_of count n → items_of later ≡ set (items_of parts) i (get_or (items_of parts) i [] ++ e ∷ []) → AreParts level from count (items_of parts) →
+    (length later ≡ most) × AreParts level from (count + 1) (items_of later)
+parts-step level from count most parts later i n e inside at bounds long low is entry grown are =
     let many : length (items_of parts) ≡ most = length-items parts ∙ long in
     let key : i ≡ part_of (key_of n.state) (length (items_of parts)) = is ∙ ap (λ (x : Entry). part_of x.key most) entry ∙ ap (part_of (key_of n.state)) (sym many) in
     let mine : items_of later ≡ set (items_of parts) i (get_or (items_of parts) i [] ++ entry_of count n ∷ []) =
     grown ∙ ap (λ (x : Entry). set (items_of parts) i (get_or (items_of parts) i [] ++ x ∷ [])) entry in (
       sym (length-items later) ∙ ap length grown ∙ length-set (items_of parts) i (get_or (items_of parts) i [] ++ e ∷ []) ∙ many,
-      subst (AreParts level (count + 1)) (sym mine) (parts-more level count (items_of parts) i n inside at bounds (omega (arith, low, many)) key are),
+      subst (AreParts level from (count + 1)) (sym mine) (parts-more level from count (items_of parts) i n inside at bounds (omega (arith, low, many)) key are),
     )

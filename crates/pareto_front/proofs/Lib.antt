@@ -1,6 +1,7 @@
 pub mod Covered
 pub mod Divisions
 pub mod Indexed
+pub mod Joins
 pub mod Marks
 pub mod Merge
 pub mod Packed

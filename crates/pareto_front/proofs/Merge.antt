@@ -35,7 +35,7 @@ length-keeps (x ∷ parts) [] all = absurd all
 length-keeps (x ∷ parts) (y ∷ kept) all = ap suc (length-keeps parts kept all.1)
 
 -- nothing is in a part past the end
-inside_part : (parts : List (List Entry)) (g : ℕ) (e : Entry) → Contains (get_or parts g []) e → g < length parts
+pub inside_part : (parts : List (List Entry)) (g : ℕ) (e : Entry) → Contains (get_or parts g []) e → g < length parts
 inside_part [] g e h = absurd (omega (arith, h.1))
 inside_part (x ∷ parts) zero e h = omega arith
 inside_part (x ∷ parts) (suc g) e h = let r = inside_part parts g e h in omega (arith, r)
@@ -66,7 +66,7 @@ covers-outdoes i j a b ba bb =
     ap (λ (t : Bool). t && is_earlier i a j b) (not_less-key a.state b.state ba bb ∙ ap (λ (t : Bool). t && are_no_less (numbers_of a.state) (numbers_of b.state)) (flipped (key_of b.state) (key_of a.state)))
 
 -- a node survives in the part of its key exactly where no node covers it
-survives-uncovered : (level : List Node) (parts : List (List Entry)) (j : ℕ) (b : Node) → AreParts level (length level) parts → j < length level → b ≡ get_or level j b →
+survives-uncovered : (level : List Node) (parts : List (List Entry)) (j : ℕ) (b : Node) → AreParts level 0 (length level) parts → j < length level → b ≡ get_or level j b →
     survives (get_or parts (part_of (key_of b.state) (length parts)) []) (entry_of j b) ≡ not (is_covered level j b)
 survives-uncovered level parts j b are low is =
     ap not (same_answer (list_any (λ o. outdoes o (entry_of j b)) part) (is_covered level j b) to from) where
@@ -74,14 +74,14 @@ survives-uncovered level parts j b are low is =
       part = get_or parts (part_of (key_of b.state) (length parts)) []
 
       bounds : AreEffects b.state.effects
-      bounds = are.effects j b low is
+      bounds = are.effects j b (omega arith) low is
 
       to : list_any (λ o. outdoes o (entry_of j b)) part ≡ true → is_covered level j b ≡ true
       to some =
           let w = any-Among (λ o. outdoes o (entry_of j b)) part some in
           let e = (are.entries (part_of (key_of b.state) (length parts)) w.0 (Among-Contains part w.0 w.1)).0 in
           let over : outdoes (entry_of w.0.place e.node) (entry_of j b) ≡ true = subst (λ (o : Entry). outdoes o (entry_of j b) ≡ true) e.is w.2 in
-          let cover : covers w.0.place e.node j b ≡ true = covers-outdoes w.0.place j e.node b (are.effects w.0.place e.node e.below e.at) bounds ∙ over in
+          let cover : covers w.0.place e.node j b ≡ true = covers-outdoes w.0.place j e.node b (are.effects w.0.place e.node (omega arith) e.below e.at) bounds ∙ over in
           Among-any (λ (p : ℕ × Node). covers p.0 p.1 j b) (w.0.place, e.node) (enumerate_from 0 level) (node-Among level w.0.place e.node e.below e.at) cover
 
       from : is_covered level j b ≡ true → list_any (λ o. outdoes o (entry_of j b)) part ≡ true
@@ -90,13 +90,13 @@ survives-uncovered level parts j b are low is =
           let i = w.0.0 in
           let a = w.0.1 in
           let node = Among-node level w.0 w.1 in
-          let over : outdoes (entry_of i a) (entry_of j b) ≡ true = sym (covers-outdoes i j a b (are.effects i a node.0 node.1) bounds) ∙ w.2 in
-          let home = are.whole i a node.0 node.1 in
+          let over : outdoes (entry_of i a) (entry_of j b) ≡ true = sym (covers-outdoes i j a b (are.effects i a (omega arith) node.0 node.1) bounds) ∙ w.2 in
+          let home = are.whole i a (omega arith) node.0 node.1 in
           let member : Contains part (entry_of i a) = subst (λ (k : ℕ). Contains (get_or parts (part_of k (length parts)) []) (entry_of i a)) (outdoes-key (entry_of i a) (entry_of j b) over) home in
           Among-any (λ o. outdoes o (entry_of j b)) (entry_of i a) part (Contains-Among part (entry_of i a) member) over
 
 -- the mark of a place
-mark-says : (level : List Node) (parts : List (List Entry)) (kept : List (List ℕ)) (marks : List Bool) (j : ℕ) (b : Node) (mark : Bool) → AreParts level (length level) parts →
+mark-says : (level : List Node) (parts : List (List Entry)) (kept : List (List ℕ)) (marks : List Bool) (j : ℕ) (b : Node) (mark : Bool) → AreParts level 0 (length level) parts →
     KeepsAll parts kept → AreMarks (length level) kept marks → j < length level → b ≡ get_or level j b → get_or marks j mark ≡ not (is_covered level j b)
 mark-says level parts kept marks j b mark are all set low is = set.set j mark low ∙ same_answer (list_any (has_place j) kept) (not (is_covered level j b)) to from where
   mine : survives (get_or parts (part_of (key_of b.state) (length parts)) []) (entry_of j b) ≡ not (is_covered level j b)
@@ -124,7 +124,7 @@ mark-says level parts kept marks j b mark are all set low is = set.set j mark lo
   from : not (is_covered level j b) ≡ true → list_any (has_place j) kept ≡ true
   from h =
       let g = part_of (key_of b.state) (length parts) in
-      let member = are.whole j b low is in
+      let member = are.whole j b (omega arith) low is in
       let within : g < length parts = inside_part parts g (entry_of j b) member in
       let keeps = keeps-at parts kept g all within in
       let place : Contains (get_or kept g []) j = keeps.whole (entry_of j b) member (mine ∙ h) in
@@ -132,19 +132,19 @@ mark-says level parts kept marks j b mark are all set low is = set.set j mark lo
       Among-any (has_place j) (get_or kept g []) kept (Among-get_or kept g [] (omega (arith, within, length-keeps parts kept all))) hit
 
 -- the marked nodes are those that none covers
-pub marked-uncovered : (level : List Node) (parts : List (List Entry)) (kept : List (List ℕ)) (marks : List Bool) → AreParts level (length level) parts → KeepsAll parts kept → AreMarks (length level) kept marks →
+pub marked-uncovered : (level : List Node) (parts : List (List Entry)) (kept : List (List ℕ)) (marks : List Bool) → AreParts level 0 (length level) parts → KeepsAll parts kept → AreMarks (length level) kept marks →
     marked_of marks level ≡ uncovered level
 unfolding uncovered
 marked-uncovered level parts kept marks are all set =
     ap (map (λ (p : ℕ × Node). p.1)) (filter-same (λ (p : ℕ × Node). get_or marks p.0 false) (λ (p : ℕ × Node). not (is_covered level p.0 p.1)) (enumerate_from 0 level)
     (λ p h. let node = Among-node level p h in mark-says level parts kept marks p.0 p.1 false are all set node.0 node.1))
 
--- what is kept of lists that are held in vectors
-pub keeps-items : {A B : Type 0} (parts : List (Vec Entry A)) (kept : List (Vec ℕ B)) → AllZip (λ (x : Vec Entry A) (y : Vec ℕ B). Keeps x.items y.items) parts kept → KeepsAll (items_of parts) (items_of kept)
-keeps-items [] [] h = h
-keeps-items [] (y ∷ kept) h = absurd h
-keeps-items (x ∷ parts) [] h = absurd h
-keeps-items (x ∷ parts) (y ∷ kept) h = (h.0, keeps-items parts kept h.1)
+-- what is kept of the parts, held in vectors
+pub keeps-items : {B : Type 0} (part : ℕ → List Entry) (gs : List ℕ) (kept : List (Vec ℕ B)) → AllZip (λ (g : ℕ) (y : Vec ℕ B). Keeps (part g) y.items) gs kept → KeepsAll (map part gs) (items_of kept)
+keeps-items part [] [] h = h
+keeps-items part [] (y ∷ kept) h = absurd h
+keeps-items part (g ∷ gs) [] h = absurd h
+keeps-items part (g ∷ gs) (y ∷ kept) h = (h.0, keeps-items part gs kept h.1)
 
 ok-zip : {X Y : Type 0} (E : Type 0) (R : X → Y → Type 0) (xs : List X) (ys : List Y) → AllZip (λ (x : X) (r : Result Y E). IfOk r (R x)) xs (map Ok ys) → AllZip R xs ys
 ok-zip E R [] [] h = h

@@ -1,11 +1,12 @@
 -- The nodes of a level in parts, so that nodes with equal progress and effects are in one part, and what is kept of a part.
-use Rattle.std.specs.Prelude.{ℕ, Bool, true, false, not, List, [], ◌∷◌, ◌++◌, ◌⊎◌, ◌≡◌, ◌*◌, ◌/◌, ◌%◌, ◌^◌, ◌<◌, ◌≤◌, ◌&&◌, ◌||◌, ◌==◌, nat_lt, length, map, filter, slice_index_or, Contains}
-use Rattle.std.specs.List.{list_any, enumerate_from}
+use Rattle.std.specs.Prelude.{ℕ, Bool, true, false, not, List, [], ◌∷◌, ◌++◌, ◌⊎◌, ◌≡◌, ◌*◌, ◌/◌, ◌%◌, ◌^◌, ◌<◌, ◌≤◌, ◌&&◌, ◌||◌, ◌==◌, nat_lt, nat_le, if◌then◌else◌, ◌+◌, length, map, filter, slice_index_or, Contains, Vec}
+use Rattle.std.specs.List.{list_any, enumerate_from, flat_map}
 use Rattle.craft_state.specs.Craft.{AreEffects}
 use Rattle.pareto_front.specs.declared.node.Node.{Node}
 use Rattle.pareto_front.specs.declared.parts.Entry.{Entry}
 use Rattle.pareto_front.specs.Columns.{Numbers, numbers_of, are_no_less, NoneEnough, IsFirstEnough}
 use Rattle.pareto_front.specs.Keys.{key_of}
+use Rattle.pareto_front.specs.Lists.{items_of}
 
 -- the part of a key, of so many parts: the bits in the middle of a product
 unfoldable pub part_of : ℕ → ℕ → ℕ
@@ -59,12 +60,32 @@ pub record IsEntry (level : List Node) (count : ℕ) (e : Entry) : Type 0 where
   pub at : node ≡ slice_index_or level e.place node
   pub is : e ≡ entry_of e.place node
 
--- each of the first nodes has its entry in the part of its key, and the parts have no others
-pub record AreParts (level : List Node) (count : ℕ) (parts : List (List Entry)) : Type 0 where
-  pub effects : (j : ℕ) (n : Node) → j < count → n ≡ slice_index_or level j n → AreEffects n.state.effects
-  pub entries : (g : ℕ) (e : Entry) → Contains (slice_index_or parts g []) e → IsEntry level count e × (g ≡ part_of e.key (length parts))
-  pub whole : (j : ℕ) (n : Node) → j < count → n ≡ slice_index_or level j n →
+-- each node from one place on and below another has its entry in the part of its key, and the parts have no others
+pub record AreParts (level : List Node) (from to : ℕ) (parts : List (List Entry)) : Type 0 where
+  pub effects : (j : ℕ) (n : Node) → from ≤ j → j < to → n ≡ slice_index_or level j n → AreEffects n.state.effects
+  pub entries : (g : ℕ) (e : Entry) → Contains (slice_index_or parts g []) e → IsEntry level to e × (g ≡ part_of e.key (length parts))
+  pub whole : (j : ℕ) (n : Node) → from ≤ j → j < to → n ≡ slice_index_or level j n →
       Contains (slice_index_or parts (part_of (key_of n.state) (length parts)) []) (entry_of j n)
+
+-- how many parts a level of so many nodes has
+abbrev pub part_count : ℕ → ℕ
+part_count len = len / 16384 + 1
+
+-- where a run of the level begins
+unfoldable pub run_start : ℕ → ℕ → ℕ
+run_start k len = if nat_le k (len / 65536) then k * 65536 else len
+
+-- the entries of a run of the level in as many parts as the level has
+pub record IsRun (level : List Node) (k : ℕ) (parts : List (List Entry)) : Type 0 where
+  pub many : length parts ≡ part_count (length level)
+  pub are : AreParts level (run_start k (length level)) (run_start (k + 1) (length level)) parts
+
+-- a part of the level: what the runs have of it, one after another
+abbrev pub joined : List (List (List Entry)) → ℕ → List Entry
+joined runs g = flat_map (λ parts. slice_index_or parts g []) runs
+
+abbrev pub runs_of : {A : Type 0} → List (Vec (Vec Entry A) A) → List (List (List Entry))
+runs_of runs = map (λ run. items_of run.items) runs
 
 abbrev pub has_place : ℕ → List ℕ → Bool
 has_place j places = list_any (λ p. p == j) places

@@ -23,7 +23,7 @@ pub use columns::Columns;
 pub use compact::PackedNode;
 pub use kept::Kept;
 pub use node::Node;
-use parts::divide;
+use parts::{divide, part_count};
 use std::alloc::Global;
 use std::thread::Threads;
 use sweep::keep_all;
@@ -74,8 +74,9 @@ pub fn prune_packed(
 ) -> Result<Vec<PackedNode>, WantMemory>
     ensures { IfOk result (λ kept. kept.items ≡ uncovered level.items) }
 {
-    let parts = divide(alloc, &level)?;
-    let kept = keep_all(rt, alloc, parts)??;
+    let runs = divide(rt, alloc, &level)??;
+    let kept = keep_all(rt, alloc, &runs, part_count(level.len()))??;
+    drop(runs);
     let marks = marks_of(alloc, level.len(), &kept)?;
     let mut left = level;
     keep_marked(&mut left, &marks);

@@ -1,31 +1,41 @@
 ghost use Rattle.std.specs.Prelude.{◌≡◌, ◌<◌, ◌==◌, [], IfOk, OnOk, if◌then◌else◌};
-ghost use Rattle.std.specs.List.{AllZip};
-ghost use Rattle.pareto_front.specs.Parts.{AreSorted, Keeps, Tries};
+ghost use Rattle.std.specs.List.{AllZip, range_with_len};
+ghost use Rattle.pareto_front.specs.Parts.{AreSorted, Keeps, Tries, joined, runs_of};
 
 use crate::columns::Columns;
-use crate::parts::Entry;
+use crate::parts::{Entry, join};
 use action_table::WantMemory;
 use rayon::prelude::*;
 use std::alloc::{AllocError, Global};
 use std::thread::Threads;
 
-/// The places of what is kept of each part, from as many threads as there are processors.
+/// The places of what is kept of each of so many parts, from as many threads as there are processors.
 pub(crate) fn keep_all(
     rt: &(impl Threads + Sync),
     alloc: Global,
-    parts: Vec<Vec<Entry>>,
+    runs: &[Vec<Vec<Entry>>],
+    count: usize,
 ) -> Result<Result<Vec<Vec<usize>>, WantMemory>, AllocError>
-    ensures { IfOk result (λ kept. IfOk kept (λ v. AllZip (λ part k. Keeps part.items k.items) parts.items v.items)) }
+    ensures { IfOk result (λ all. IfOk all (λ kept.
+        AllZip (λ g places. Keeps (joined (runs_of runs.now) g) places.items) (range_with_len 0 count) kept.items)) }
 {
-    parts
+    (0..count)
         .into_par_iter()
         .with_min_len(1)
         .map(
-            |part: Vec<Entry>| -> Result<Vec<usize>, WantMemory>
-                ensures { IfOk result (λ kept. Keeps part.items kept.items) }
-            { keep(alloc, part) },
+            |part: usize| -> Result<Vec<usize>, WantMemory>
+                ensures { IfOk result (λ places. Keeps (joined (runs_of runs.entry.now) part) places.items) }
+            { keep_part(alloc, runs, part) },
         )
         .collect(rt, alloc)
+}
+
+// The places of what is kept of a part.
+fn keep_part(alloc: Global, runs: &[Vec<Vec<Entry>>], part: usize) -> Result<Vec<usize>, WantMemory>
+    ensures { IfOk result (λ places. Keeps (joined (runs_of runs.now) part) places.items) }
+{
+    let entries = join(alloc, runs, part)?;
+    keep(alloc, entries)
 }
 
 // The places of the entries of a part that no other outdoes.

@@ -1,15 +1,18 @@
-use Rattle.std.proofs.Common.{ap, ◌∙◌, IfOk, subst}
-use Rattle.std.specs.List.{AllZip}
-use Rattle.rayon.specs.Lists.{vec_items}
+use Rattle.std.proofs.Common.{◌≡◌, ◌∙◌, ◌-◌, IfOk, ap, arith, subst}
+use Rattle.std.specs.List.{AllZip, range_with_len}
+use Rattle.rayon.specs.Lists.{range_start, range_end}
+use Rattle.rayon.specs.Numbers.{nat_range}
 use Rattle.rayon.proofs.ListFacts.{IfOk-then}
-use Rattle.pareto_front.specs.Parts.{Keeps}
+use Rattle.pareto_front.specs.Parts.{Keeps, joined, runs_of}
 use Rattle.pareto_front.proofs.Merge.{gather}
 use Rattle.pareto_front.proofs.sweep.keep_all.Goals as goal
 
 pub returns : goal.returns
 returns g c =
-    let items = ap (λ it. vec_items it.base) c.map.ensures.base ∙ ap vec_items c.with_min_len.ensures.base ∙ c.into_par_iter.ensures in
+    let runs = runs_of c.args.runs.now in
+    let end : c.args.count - 0 ≡ c.args.count = omega arith in
     IfOk-then c.collect.result _ _ c.collect.ensures (λ v h.
-    let chain = h.1 in
-    let zip = subst (λ l. AllZip (λ x r. IfOk r (λ kept. Keeps x.items kept.items)) l h.0) (chain.1 ∙ items) chain.2 in
-    gather (λ x y. Keeps x.items y.items) c.args.parts.items h.0 v _ zip h.2)
+    let chain = rw (c.map.ensures.base, c.map.ensures.f) at h.1 in
+    let items = chain.1 ∙ ap (λ it. nat_range (range_start it) (range_end it)) c.with_min_len.ensures.base ∙ (λ j. nat_range (c.into_par_iter.ensures.0 j) (c.into_par_iter.ensures.1 j)) ∙ ap (range_with_len 0) end in
+    let zip = subst (λ l. AllZip (λ part r. IfOk r (λ places. Keeps (joined runs part) places.items)) l h.0) items chain.2 in
+    gather (λ part places. Keeps (joined runs part) places.items) (range_with_len 0 c.args.count) h.0 v _ zip h.2)
