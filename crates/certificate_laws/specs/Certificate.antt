@@ -1,4 +1,8 @@
--- Certificates of the best macro.
+-- Certificates of the best macro. Why one is enough: each macro that completes the craft begins with the empty prefix, and
+-- each of its prefixes that is kept has a verdict for the next action. Followed from level to level, its verdicts end with
+-- one that says why it is no better than the macro of the certificate: it is complete and no better, it has failed, its
+-- limit is too low, it takes too many steps, or a kept prefix dominates it, and then a macro that is as good goes on from
+-- that one. The last level keeps none, so that no macro is left.
 use Rattle.std.specs.Prelude.{ℕ, ◌≡◌, List, [], ◌∷◌, Some}
 use Rattle.action_table.specs.declared.action.Action.{Action}
 use Rattle.craft_settings.specs.Ranges.{SettingsFields, AreSettings, IsFromTo}

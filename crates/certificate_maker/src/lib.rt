@@ -30,6 +30,8 @@ use std::thread::Threads;
 /// The certificate that is made for the best macro of a craft, with limits of a grain from 1 to 64. Its checker accepts
 /// it. Level by level each live child of a kept prefix is `q` where its limit shows that it loses, else `s` where the
 /// limits show that it takes too long, else `d` with the first kept prefix of its level that dominates it, else `k`.
+/// `actions` is the best macro of the craft. The workers and threads change nothing of the bytes. Errors: only where memory
+/// runs out.
 pub fn certify(
     rt: &(impl Threads + Sync),
     alloc: Global,
@@ -43,6 +45,7 @@ pub fn certify(
     ensures made { IfOk result (λ bytes. IsMade g.now grain actions.now bytes.items) }
     ensures certificate { IfOk result (λ bytes. IsCertificate g.now bytes.items actions.now) }
 {
+    // Settings are within their ranges, which is known where one of their fields is read.
     let _level = g.level;
     match score(g, actions) {
         None => unreachable!(),

@@ -98,7 +98,8 @@ fn outdoes(a: &Node, b: &Node) -> bool
 
 // Whether a node stands before another in action order.
 fn comes_first(a: &Node, b: &Node) -> bool
-    ensures { result ≡ (nat_lt a.now.parent b.now.parent || (a.now.parent == b.now.parent && nat_lt (number_of a.now.action) (number_of b.now.action))) }
+    ensures { result ≡ (nat_lt a.now.parent b.now.parent
+        || (a.now.parent == b.now.parent && nat_lt (number_of a.now.action) (number_of b.now.action))) }
 {
     a.parent < b.parent || (a.parent == b.parent && a.action.number() < b.action.number())
 }

@@ -18,7 +18,7 @@ pub struct StdSource<R: Read + Drop> {
 }
 
 impl<R: Read + Drop> StdSource<R> {
-    /// No read has been made yet.
+    /// A source over this reader, which counts no read and no fault yet. Nothing is read.
     pub fn new(reader: R) -> StdSource<R>
         ensures reader { result.reader ≡ reader }
         ensures reads { result.reads ≡ 0 }
@@ -62,7 +62,7 @@ pub struct StdSink<W: Write + Drop> {
 }
 
 impl<W: Write + Drop> StdSink<W> {
-    /// No write has failed yet.
+    /// A sink over this writer, which counts no fault yet. Nothing is written.
     pub fn new(writer: W) -> StdSink<W>
         ensures writer { result.writer ≡ writer }
         ensures faults { result.faults ≡ 0 }

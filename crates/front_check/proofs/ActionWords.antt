@@ -13,13 +13,13 @@ use Rattle.action_table.proofs.Names.{number_of-injective, number_below}
 use Rattle.certificate_text.specs.Text.{space, is_number, first_line, best_line}
 use Rattle.certificate_text.specs.Reading.{IsReadNumber}
 use Rattle.certificate_text.proofs.WordByWord.{from_on}
-use Rattle.front_check.specs.Named.{word_of, Names, NamesNone}
+use Rattle.front_check.specs.Named.{action_word, Names, NamesNone}
 use Rattle.front_check.proofs.FromLevel.{rest-is}
 use Rattle.certificate_text.proofs.Parts.{no-position}
 
 -- the words of a macro
 abbrev spelled : List Action → List ℕ
-spelled m = flat_map word_of m
+spelled m = flat_map action_word m
 
 abbrev before : List ℕ → ℕ
 before bytes = prefix_len (λ byte. not (byte == space)) bytes

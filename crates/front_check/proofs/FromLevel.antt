@@ -16,6 +16,7 @@ use Rattle.front_check.specs.Judging.{CanGoOn}
 use Rattle.front_check.specs.Levels.{LeadsTo, AreKept, IsNextLevel}
 use Rattle.front_check.proofs.Leading.{leads-none, leads-more, breaks-here}
 use Rattle.front_check.proofs.Counting.{keeps-few, room-parts, keeps-kept, parts-long}
+use Rattle.front_check.specs.declared.checker.TheConstants.{MOST_TEXT}
 
 pub cut-first : (text : List ℕ) (end : ℕ) → position (λ byte. byte == line_end) text ≡ Some end → parts line_end text ≡ take end text ∷ parts line_end (from_on (end + 1) text)
 cut-first text end found = parts-at line_end text end found ∙ ap (λ (l : List ℕ). take end text ∷ parts line_end l) (sym (take_rest text (end + 1)))
@@ -98,7 +99,7 @@ is_none n h = grind (arith, nat_tests)
 pub rest-long : (text : List ℕ) (from : ℕ) → length (from_on from text) ≤ length text
 rest-long text from = omega (arith, ap (λ (l : List ℕ). length l) (take_rest text from), length-drop from text)
 
-pub next-few : (g : SettingsFields) (kept next : List Prefix) (text : List ℕ) → length text ≤ 16777216 → Keeps g kept (parts line_end text) next → length next ≤ MOST_NUMBER
+pub next-few : (g : SettingsFields) (kept next : List Prefix) (text : List ℕ) → length text ≤ MOST_TEXT → Keeps g kept (parts line_end text) next → length next ≤ MOST_NUMBER
 next-few g kept next text small keeps = omega (arith, keeps-few g kept (parts line_end text) next keeps, room-parts line_end text)
 
 pub kept-go : (g : SettingsFields) (level : ℕ) (kept : List Prefix) → AreKept g level kept → All (CanGoOn g) kept
@@ -114,7 +115,7 @@ pub next-long : (g : SettingsFields) (level : ℕ) (kept next coming : List Pref
 next-long g level kept next coming text all keeps same =
     subst (λ (ps : List Prefix). All (λ q. length q.actions ≡ level + 1) ps) (sym same) (λ k d inside. (keeps-kept g level kept (parts line_end text) next all keeps k d inside).long)
 
-pub coming-few : (g : SettingsFields) (kept next coming : List Prefix) (text : List ℕ) (from : ℕ) → length text ≤ 16777216 → Keeps g kept (parts line_end (from_on from text)) next → coming ≡ next → length coming ≤ MOST_NUMBER
+pub coming-few : (g : SettingsFields) (kept next coming : List Prefix) (text : List ℕ) (from : ℕ) → length text ≤ MOST_TEXT → Keeps g kept (parts line_end (from_on from text)) next → coming ≡ next → length coming ≤ MOST_NUMBER
 coming-few g kept next coming text from small keeps same =
     subst (λ (ps : List Prefix). length ps ≤ MOST_NUMBER) (sym same) (next-few g kept next (from_on from text) (omega (arith, rest-long text from, small)) keeps)
 
@@ -125,7 +126,7 @@ level-broken claim level kept next text end place found says some keeps broken =
 
 -- rows that all hold
 pub level-whole : (claim : Claim) (level : ℕ) (kept next : List Prefix) (text : List ℕ) (end from : ℕ) → position (λ byte. byte == line_end) text ≡ Some end → take end text ≡ level_line level (length kept) → (length kept ≡ 0 → ⊥) →
-    length text ≤ 16777216 → AreKept claim.g level kept → Keeps claim.g kept (parts line_end (from_on (end + 1) text)) next → from ≤ length (from_on (end + 1) text) →
+    length text ≤ MOST_TEXT → AreKept claim.g level kept → Keeps claim.g kept (parts line_end (from_on (end + 1) text)) next → from ≤ length (from_on (end + 1) text) →
     LeadsTo claim.g (after_row claim level kept next) (parts line_end (from_on (end + 1) text)) (heading claim (level + 1) next) (parts line_end (drop from (from_on (end + 1) text))) (length kept) →
     IsNextLevel claim.g claim level kept text next (end + 1 + from)
 level-whole claim level kept next text end from found says some small all keeps inside leads =

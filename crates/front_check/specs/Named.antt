@@ -6,8 +6,8 @@ use Rattle.action_table.specs.Table.{number_of}
 use Rattle.certificate_text.specs.Text.{best_line}
 
 -- a space and the number of an action
-abbrev pub word_of : Action → List ℕ
-word_of action = codes " " ++ decimal (number_of action)
+abbrev pub action_word : Action → List ℕ
+action_word action = codes " " ++ decimal (number_of action)
 
 -- the line names no macro
 abbrev pub NamesNone : List ℕ → Type 0

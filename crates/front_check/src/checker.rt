@@ -17,6 +17,9 @@ use action_table::Action;
 use craft_settings::Settings;
 use std::alloc::{AllocError, Global};
 
+/// The most bytes of a certificate that is checked.
+pub const MOST_TEXT: usize = 16777216;
+
 /// Why a text is no certificate.
 #[derive(Debug, PartialEq, Eq, Drop)]
 pub enum CertFault {
@@ -42,13 +45,13 @@ impl From<action_table::WantMemory> for CertFault {
     }
 }
 
-/// The macro of the certificate that the bytes are, which is the best macro of the craft. The bytes are at most 2^24.
+/// The macro of the certificate that the bytes are, which is the best macro of the craft. The bytes are at most `MOST_TEXT`.
 ///
 /// Where they are a certificate for a macro, the answer is this macro, or want of memory. Where they are a certificate
 /// for none, it is the first line that breaks a rule, counted from 1, or want of memory. No search is called: it rests
 /// on the rules of the craft and on the two bounds, and takes memory for two tables of bounds and two levels.
 pub fn verify(alloc: Global, g: &Settings, bytes: &[u8]) -> Result<Vec<Action>, CertFault>
-    requires { length bytes.now ≤ 16777216 }
+    requires { length bytes.now ≤ MOST_TEXT }
     ensures read { MatchResult result (λ actions. IsCertificate g.now bytes.now actions.items) (IsFault g.now bytes.now) }
     ensures certificate { (m : List ActionFields) → IsCertificate g.now bytes.now m →
         MatchResult result (λ actions. actions.items ≡ m) (λ fault. fault ≡ WantMemory) }
@@ -56,6 +59,7 @@ pub fn verify(alloc: Global, g: &Settings, bytes: &[u8]) -> Result<Vec<Action>, 
         MatchResult result (λ actions. ⊥) (λ fault. (fault ≡ Refused line) ⊎ (fault ≡ WantMemory)) }
     ensures best { IfOk result (λ actions. IsBest g.now actions.items) }
 {
+    // Settings are within their ranges, which is known where one of their fields is read.
     let _level = g.level;
     verify_by::<Tables>(alloc, g, bytes)
 }
@@ -67,7 +71,7 @@ pub(crate) fn verify_by<L: Limits>(
     bytes: &[u8],
 ) -> Result<Vec<Action>, CertFault>
     requires settings { AreSettings g.now }
-    requires few { length bytes.now ≤ 16777216 }
+    requires few { length bytes.now ≤ MOST_TEXT }
     ensures { MatchResult result (λ actions. IsCertificate g.now bytes.now actions.items) (IsFault g.now bytes.now) }
 {
     let opening = read_opening(alloc, g, bytes)?;

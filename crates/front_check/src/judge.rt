@@ -180,7 +180,8 @@ impl Kept {
     }
 }
 
-/// Whether the first of two states isn't less than the second.
+/// Whether the first of two states isn't less than the second: it has the same progress and effects, and no less CP,
+/// durability and quality.
 #[tactic(auto, unfolding(craft_state::specs::NotLess::is_not_less, craft_state::specs::NotLess::same_effects))]
 pub fn covers(a: &State, b: &State) -> bool
     ensures { result ≡ is_not_less a.now b.now }

@@ -3,6 +3,7 @@ ghost use Rattle.std.specs.Prelude.{◌≡◌, ◌≤◌, ◌+◌, IfOk, All, le
 ghost use Rattle.certificate_text.specs.declared.numbers.TheConstants.{MOST_NUMBER};
 ghost use Rattle.front_check.specs.Judging.{bounds_of, claim_of, IsClaimed};
 ghost use Rattle.front_check.specs.Levels.{AreKept, IsRowsEnd, IsLevelEnd};
+ghost use Rattle.front_check.specs.declared.checker.TheConstants.{MOST_TEXT};
 
 use crate::ahead::look_ahead;
 use crate::heading::begins_level;
@@ -84,7 +85,7 @@ pub(crate) fn judge_level<L: Limits>(
     requires bounds { L.bounds limits.old ≡ bounds_of claimed.now }
     requires claimed { IsClaimed claimed.now }
     requires kept { AreKept claimed.now.g.now level.now.number level.now.kept.now }
-    requires text { length text.now ≤ 16777216 }
+    requires text { length text.now ≤ MOST_TEXT }
     ensures value { IfOk result (
         IsLevelEnd claimed.now.g.now (claim_of claimed.now) level.now.number level.now.kept.now text.now) }
     ensures still { L.bounds limits.new ≡ L.bounds limits.old }

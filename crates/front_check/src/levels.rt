@@ -3,6 +3,7 @@ ghost use Rattle.std.specs.Prelude.{◌≡◌, ◌≤◌, IfOk, length};
 ghost use Rattle.craft_settings.specs.Ranges.{AreSettings};
 ghost use Rattle.front_check.specs.Judging.{bounds_of, claim_of, IsClaimed};
 ghost use Rattle.front_check.specs.Levels.{IsJudged};
+ghost use Rattle.front_check.specs.declared.checker.TheConstants.{MOST_TEXT};
 
 use crate::judge::Claimed;
 use crate::kept::Kept;
@@ -24,7 +25,7 @@ pub(crate) fn judge_levels<L: Limits>(
     requires bounds { L.bounds limits.old ≡ bounds_of claimed.now }
     requires claimed { IsClaimed claimed.now }
     requires settings { AreSettings claimed.now.g.now }
-    requires text { length text.now ≤ 16777216 }
+    requires text { length text.now ≤ MOST_TEXT }
     ensures value { IfOk result (IsJudged claimed.now.g.now (claim_of claimed.now) text.now) }
     ensures still { L.bounds limits.new ≡ L.bounds limits.old }
 {

@@ -16,7 +16,7 @@ mod tables;
 #[cfg(test)]
 mod tests;
 
-pub use checker::{CertFault, verify};
+pub use checker::{CertFault, MOST_TEXT, verify};
 pub use judge::{Claimed, covers, is_at_most, is_below};
 pub use limits::Limits;
 pub use naming::print_best;

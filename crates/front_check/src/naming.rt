@@ -6,7 +6,7 @@ ghost use Rattle.certificate_text.specs.Text.{space, first_line, best_line};
 ghost use Rattle.std.specs.Fmt.{decimal};
 ghost use Rattle.std.specs.List.{prefix_len};
 ghost use Rattle.action_table.specs.Table.{number_of};
-ghost use Rattle.front_check.specs.Named.{Names, NamesNone, word_of};
+ghost use Rattle.front_check.specs.Named.{Names, NamesNone, action_word};
 
 use action_table::Action;
 use certificate_text::{end_of, read_number};
@@ -59,7 +59,8 @@ pub(crate) fn read_best(alloc: Global, line: &[u8]) -> Result<Option<Vec<Action>
     }
 }
 
-/// The line that names a macro, without its end.
+/// The second line of a certificate, without its line feed: `best` and the numbers of the actions in order, each after one
+/// space. Errors: only where memory runs out.
 pub fn print_best(alloc: Global, actions: &[Action]) -> Result<String, AllocError>
     ensures { IfOk result (λ text. string_bytes text ≡ best_line actions.now) }
 {
@@ -72,7 +73,7 @@ pub fn print_best(alloc: Global, actions: &[Action]) -> Result<String, AllocErro
 }
 
 fn push_word(text: &mut String, action: Action) -> Result<(), AllocError>
-    ensures { OnOk result (string_bytes text.new ≡ string_bytes text.old ++ word_of action) }
+    ensures { OnOk result (string_bytes text.new ≡ string_bytes text.old ++ action_word action) }
 {
     let number = action.number();
     write!(text, " {number}")

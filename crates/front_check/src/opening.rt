@@ -2,6 +2,7 @@
 ghost use Rattle.std.specs.Prelude.{◌≤◌, IfOk, length};
 ghost use Rattle.craft_settings.specs.Ranges.{AreSettings};
 ghost use Rattle.front_check.specs.Levels.{IsOpening};
+ghost use Rattle.front_check.specs.declared.checker.TheConstants.{MOST_TEXT};
 
 use crate::naming::{read_best, read_grain};
 use action_table::Action;
@@ -28,7 +29,7 @@ pub(crate) enum Opening {
 
 /// Reads the first two lines.
 pub(crate) fn read_opening(alloc: Global, g: &Settings, text: &[u8]) -> Result<Opening, AllocError>
-    requires { length text.now ≤ 16777216 }
+    requires { length text.now ≤ MOST_TEXT }
     ensures { IfOk result (IsOpening g.now text.now) }
 {
     let first = match end_of(text, LINE_END) {

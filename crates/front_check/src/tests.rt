@@ -4,8 +4,6 @@ use craft_settings::Settings;
 use std::alloc::Global;
 use std::test::Fail;
 
-const MOST_BYTES: usize = 16777216;
-
 // A crafter of level 5 with CP for one touch. No Trained Eye, and quality counts no more than the target.
 const SMALL: Settings = Settings {
     level: 5,
@@ -38,7 +36,7 @@ const MENDED: Settings = Settings {
 
 // Whether the checker accepts a text for this macro; or, where a line is told, refuses this line.
 fn judges(alloc: Global, g: &Settings, text: &[u8], best: &[Action], line: Option<u32>) -> bool {
-    if text.len() > MOST_BYTES {
+    if text.len() > MOST_TEXT {
         return false;
     }
     match verify(alloc, g, text) {

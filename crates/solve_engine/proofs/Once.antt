@@ -17,6 +17,7 @@ use Rattle.run_io.specs.Answering.{Rows, WithSettings}
 use Rattle.run_io.specs.Reading.{AcceptsOnly, RefusesSettings}
 use Rattle.run_io.specs.declared.status.Status.{Status}
 use Rattle.run_io.specs.declared.status.Status.TheVariants.{Solved, NoMacro, BadSettings, BadPrefix, NotReached, BadMacro, StoppedMacro, NotBest, BadCertificate}
+use Rattle.sample_craft.specs.Sample.{sample_of}
 use Rattle.solve_words.specs.declared.words.Command.{Command}
 use Rattle.solve_words.specs.declared.words.Command.TheVariants.{Solve, Sample, Resume, Sweep, Replay, Check, Certify, Verify}
 use Rattle.solve_words.specs.declared.words.Words.{Words}
@@ -36,7 +37,7 @@ use Rattle.solve_engine.specs.Sample.{SampleAnswers}
 use Rattle.solve_engine.specs.Solve.{SolvesTo}
 use Rattle.solve_engine.specs.Sweep.{SweepsTo}
 use Rattle.solve_engine.specs.Verify.{IsProof, Proof, ProofParts, RefusesProof, VerifyAnswers}
-use Rattle.solve_engine.specs.declared.verify.TheConstants.{MOST_TEXT}
+use Rattle.front_check.specs.declared.checker.TheConstants.{MOST_TEXT}
 
 same_settings : (bytes : List ℕ) (g h : SettingsFields) → AcceptsOnly bytes g → AcceptsOnly bytes h → h ≡ g
 same_settings bytes g h is also = is.only h also.accepted
@@ -75,32 +76,49 @@ with_settings rows input one s t bytes other row also = go (split_settings rows 
 best_or_none : (g : SettingsFields) (m : List Action) → IsBest g m → NothingCompletes g → ⊥
 best_or_none g m best none = let is = best.completes in let other = none m in cc
 
+-- what a row says of a craft, where it is of a best macro or of none
+Says : SettingsFields → Status → Type 0
+Says g Solved = (m : List Action) × IsBest g m
+Says g NoMacro = NothingCompletes g
+Says g _ = ⊥
+
+one_said : (g : SettingsFields) (s t : Status) → Says g s → Says g t → s ≡ t
+unfolding Says
+one_said g Solved Solved said also = refl
+one_said g NoMacro NoMacro said also = refl
+one_said g Solved NoMacro said also = absurd (best_or_none g said.0 said.1 also)
+one_said g NoMacro Solved said also = absurd (best_or_none g also.0 also.1 said)
+one_said g Solved _ said also = absurd also
+one_said g NoMacro _ said also = absurd also
+one_said g _ t said also = absurd said
+
+solved_says : (given : Words) (g : SettingsFields) (s : Status) (bytes : List ℕ) → SolvesTo given g s bytes → Says g s
+unfolding Says
+solved_says given g Solved bytes row = (row.0, row.1)
+solved_says given g NoMacro bytes row = row.0
+solved_says given g _ bytes row = absurd row
+
+certified_says : (grain : ℕ) (g : SettingsFields) (s : Status) (bytes : List ℕ) → CertifiesTo grain g s bytes → Says g s
+unfolding Says
+certified_says grain g Solved bytes row = (row.0, row.1)
+certified_says grain g NoMacro bytes row = row.0
+certified_says grain g _ bytes row = absurd row
+
+sampled_says : (given : Words) (n : ℕ) (s : Status) (bytes : List ℕ) → SampleAnswers given n s bytes → Says (sample_of n) s
+unfolding Says
+sampled_says given n Solved bytes row = (row.0, row.1)
+sampled_says given n NoMacro bytes row = row.0
+sampled_says given n _ bytes row = absurd row
+
 one_solved : (given : Words) (g : SettingsFields) → HasOneStatus (SolvesTo given g)
-one_solved given g Solved Solved bytes other row also = refl
-one_solved given g NoMacro NoMacro bytes other row also = refl
-one_solved given g Solved NoMacro bytes other row also = absurd (best_or_none g row.0 row.1 also.0)
-one_solved given g NoMacro Solved bytes other row also = absurd (best_or_none g also.0 also.1 row.0)
-one_solved given g Solved _ bytes other row also = absurd also
-one_solved given g NoMacro _ bytes other row also = absurd also
-one_solved given g _ t bytes other row also = absurd row
+one_solved given g s t bytes other row also = one_said g s t (solved_says given g s bytes row) (solved_says given g t other also)
 
 one_certified : (grain : ℕ) (g : SettingsFields) → HasOneStatus (CertifiesTo grain g)
-one_certified grain g Solved Solved bytes other row also = refl
-one_certified grain g NoMacro NoMacro bytes other row also = refl
-one_certified grain g Solved NoMacro bytes other row also = absurd (best_or_none g row.0 row.1 also.0)
-one_certified grain g NoMacro Solved bytes other row also = absurd (best_or_none g also.0 also.1 row.0)
-one_certified grain g Solved _ bytes other row also = absurd also
-one_certified grain g NoMacro _ bytes other row also = absurd also
-one_certified grain g _ t bytes other row also = absurd row
+one_certified grain g s t bytes other row also = one_said g s t (certified_says grain g s bytes row) (certified_says grain g t other also)
 
 one_sampled : (given : Words) (n : ℕ) → HasOneStatus (SampleAnswers given n)
-one_sampled given n Solved Solved bytes other row also = refl
-one_sampled given n NoMacro NoMacro bytes other row also = refl
-one_sampled given n Solved NoMacro bytes other row also = absurd (best_or_none _ row.0 row.1 also.0)
-one_sampled given n NoMacro Solved bytes other row also = absurd (best_or_none _ also.0 also.1 row.0)
-one_sampled given n Solved _ bytes other row also = absurd also
-one_sampled given n NoMacro _ bytes other row also = absurd also
-one_sampled given n _ t bytes other row also = absurd row
+one_sampled given n s t bytes other row also =
+    one_said (sample_of n) s t (sampled_says given n s bytes row) (sampled_says given n t other also)
 
 one_resumed : (done : List Action) (g : SettingsFields) → HasOneStatus (ResumesTo done g)
 one_resumed done g Solved Solved bytes other row also = refl

@@ -8,7 +8,7 @@ use Rattle.run_io.specs.declared.halt.Halt.TheVariants.{Refused, BadWords as Bad
 use Rattle.run_io.specs.declared.status.Status.{Status}
 use Rattle.run_io.specs.declared.status.Status.TheVariants.{Solved, NoMacro, BadWords, BadSettings, ReadFault, WriteFault, WantMemory, BadPrefix, NotReached, BadMacro, StoppedMacro, NotBest, BadCertificate}
 use Rattle.solve_engine.specs.Verify.{Proof, IsAccepted, IsHaltOfProof, VerifyAnswers}
-use Rattle.solve_engine.specs.declared.verify.TheConstants.{MOST_TEXT}
+use Rattle.front_check.specs.declared.checker.TheConstants.{MOST_TEXT}
 use Rattle.solve_engine.proofs.Inputs.{refused_in}
 
 -- a certificate is accepted only in an input that isn't too long

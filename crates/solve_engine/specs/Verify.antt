@@ -13,7 +13,7 @@ use Rattle.run_io.specs.declared.halt.Halt.{Halt}
 use Rattle.run_io.specs.declared.halt.Halt.TheVariants.{Refused, WantMemory}
 use Rattle.run_io.specs.declared.status.Status.TheVariants.{Solved, BadSettings, BadCertificate}
 use Rattle.solve_engine.specs.Input.{AreParts}
-use Rattle.solve_engine.specs.declared.verify.TheConstants.{MOST_TEXT}
+use Rattle.front_check.specs.declared.checker.TheConstants.{MOST_TEXT}
 
 abbrev pub accepted_line : List ℕ
 accepted_line = codes "accepted\n"

@@ -1,19 +1,17 @@
 // The command `verify`: whether a certificate is one.
 ghost use Rattle.std.specs.Prelude.{◌≡◌, ◌≤◌, IfErr, IfOk, IfSome, length, option_map};
+ghost use Rattle.front_check.specs.declared.checker.TheConstants.{MOST_TEXT};
 ghost use Rattle.run_io.specs.Halts.{IsIn};
 ghost use Rattle.solve_engine.specs.Verify.{IsAccepted, IsHaltOfProof, VerifyAnswers, accepted_line, long_line, no_mark_line, refused_line};
 
 use crate::pasted::parts_within;
 use action_table::WantMemory;
 use craft_settings::Settings;
-use front_check::CertFault;
+use front_check::{CertFault, MOST_TEXT};
 use run_io::{Answer, Halt, Refusal, Status, settings_in};
 use std::alloc::Global;
 
-/// The most bytes of settings and a certificate together.
-pub(crate) const MOST_TEXT: usize = 16777216;
-
-/// One byte more, so that a longer input is seen.
+/// One byte more than settings and a certificate have together, so that a longer input is seen.
 pub(crate) const READ_TEXT: usize = MOST_TEXT + 1;
 
 /// What `verify` answers to settings and a certificate.

@@ -22,7 +22,8 @@ words_read command _ _ _ = None
 -- every option that is not given
 abbrev pub words_given : Command → List Given → Option Words
 words_given command given =
-    words_read command (number_or (value_of (codes "workers") given) default_workers) (number_or (value_of (codes "grain") given) default_grain)
+    words_read command (number_or (value_of (codes "workers") given) default_workers)
+    (number_or (value_of (codes "grain") given) default_grain)
     (report_or (value_of (codes "report") given))
 
 -- the names of each command's options
