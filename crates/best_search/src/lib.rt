@@ -32,7 +32,7 @@ use step_rules::start;
 use tables::free_table;
 use worker_gate::{Crew, Gate};
 
-/// So many workers for a crew that looks for the best macro.
+/// `count` workers for a crew that looks for the best macro; a crew has 1 to 64. Errors: only where memory runs out.
 pub fn seekers(alloc: Global, count: u32) -> Result<Vec<Walker<()>>, WantMemory>
     ensures { IfOk result (λ v. length v.items ≡ count) }
 {
@@ -59,7 +59,8 @@ pub fn best_macro<R: Threads + Sync, G: Gate>(
     best_from(crew, alloc, g, &from)
 }
 
-/// The best macro of a craft, as `best_macro` has it, by so many workers of 1 to 64.
+/// The best macro of a craft, as `best_macro` has it, by so many workers, 1 to 64. Their number and the gate change nothing
+/// of the answer. Errors: only where memory runs out.
 pub fn best_with<G: Gate>(
     rt: &(impl Threads + Sync),
     alloc: Global,

@@ -8,12 +8,69 @@ const ORDINARY: &str =
     "[crafter]\nlevel = 5\ncp = 18\n[recipe]\ndurability = 20\nprogress = 100\nquality = 500\n[base]\nprogress = 100\nquality = 100\n";
 
 // A file with each key of the stats form.
-const STATS: &str =
-    "version = 2\ncrafter = {level = 50, cp = 180, craftsmanship = 240, control = 200}\nactions = {forbid = [\"observe\"], backload = true}\n[recipe]\ndurability = 40\nprogress = 150\nquality = 400\ninitial_quality = 7\nprogress_div = 50\nquality_div = 30\nprogress_mod = 80\nquality_mod = 70\npenalty = true\ntarget = 300\ntrained_eye = true\n";
+const STATS: &str = "version = 2
+crafter = {level = 50, cp = 180, craftsmanship = 240, control = 200}
+actions = {forbid = [\"observe\"], backload = true}
+[recipe]
+durability = 40
+progress = 150
+quality = 400
+initial_quality = 7
+progress_div = 50
+quality_div = 30
+progress_mod = 80
+quality_mod = 70
+penalty = true
+target = 300
+trained_eye = true
+";
 
 // A file with each key of the base form that the other lacks.
-const BASE: &str =
-    "version = 1\n[crafter]\nlevel = 5\ncp = 18\n[recipe]\ndurability = 20\nprogress = 100\nquality = 500\n[base]\nprogress = 120\nquality = 90\n";
+const BASE: &str = "version = 1
+[crafter]
+level = 5
+cp = 18
+[recipe]
+durability = 20
+progress = 100
+quality = 500
+[base]
+progress = 120
+quality = 90
+";
+
+// The fields that these files give, in their order.
+const ORDINARY_FIELDS: [u32; 11] = [5, 18, 20, 100, 500, 0, 100, 100, 33554432, 500, 0];
+
+const STATS_FIELDS: [u32; 11] = [50, 180, 40, 150, 400, 7, 40, 71, 8, 300, 1];
+
+const BASE_FIELDS: [u32; 11] = [5, 18, 20, 100, 500, 0, 120, 90, 33554432, 500, 0];
+
+// The places of some fields.
+const DURABILITY: usize = 2;
+
+const INITIAL: usize = 5;
+
+const BASE_PROGRESS: usize = 6;
+
+const BASE_QUALITY: usize = 7;
+
+const FORBIDDEN: usize = 8;
+
+const TARGET: usize = 9;
+
+const BACKLOAD: usize = 10;
+
+// The fields with some in place of others.
+fn changed(fields: [u32; 11], changes: &[(usize, u32)]) -> [u32; 11] {
+    let mut changed = fields;
+    for &(place, value) in changes {
+        if let Some(field) = changed.get_mut(place) {
+            *field = value;
+        }
+    }
+    changed
+}
 
 // The variant, the path or name, and the number.
 fn told(fault: &SettingsFault) -> (&'static str, &[u8], i64) {
@@ -81,36 +138,53 @@ fn is_edit_refused(
     Ok(is_refused(alloc, text.as_bytes(), told.0, told.1, told.2))
 }
 
-// Whether each number of a table of the file is refused as a flag, below its range and above it.
+// The settings of a text with one part in place of another have these fields.
+fn edit_gives(
+    alloc: Global,
+    text: &str,
+    edit: (&str, &str),
+    fields: [u32; 11],
+) -> Result<bool, AllocError> {
+    let text = edited(alloc, text, edit.0, edit.1)?;
+    Ok(gives(alloc, text.as_bytes(), fields))
+}
+
+// Whether a number of a table of the file is refused as a flag, below its range and above it.
+fn is_checked(
+    alloc: Global,
+    text: &str,
+    table: &str,
+    number: &(&str, i64, i64),
+) -> Result<bool, AllocError> {
+    let (part, below, above) = *number;
+    let Some((name, _)) = part.split_once(" = ") else {
+        return Ok(false);
+    };
+    let path = format!(in alloc; "{table}.{name}")?;
+    let flag = format!(in alloc; "{name} = true")?;
+    let low = format!(in alloc; "{name} = {below}")?;
+    let high = format!(in alloc; "{name} = {above}")?;
+    for (new, kind, value) in [
+        (flag.as_str(), "WrongKind", 0),
+        (low.as_str(), "OutOfRange", below),
+        (high.as_str(), "OutOfRange", above),
+    ] {
+        if !is_edit_refused(alloc, text, (part, new), (kind, path.as_str(), value))? {
+            return Ok(false);
+        }
+    }
+    Ok(true)
+}
+
+// Whether each number of a table of the file is.
 fn are_checked(
     alloc: Global,
     text: &str,
     table: &str,
     numbers: &[(&str, i64, i64)],
 ) -> Result<bool, AllocError> {
-    for (part, below, above) in numbers {
-        let Some((name, _)) = part.split_once(" = ") else {
-            return Ok(false);
-        };
-        let path = format!(in alloc; "{table}.{name}")?;
-        let flag = format!(in alloc; "{name} = true")?;
-        let low = format!(in alloc; "{name} = {below}")?;
-        let high = format!(in alloc; "{name} = {above}")?;
-        let path = path.as_str();
-        let refused = is_edit_refused(alloc, text, (part, flag.as_str()), ("WrongKind", path, 0))?
-            & is_edit_refused(
-                alloc,
-                text,
-                (part, low.as_str()),
-                ("OutOfRange", path, *below),
-            )?
-            & is_edit_refused(
-                alloc,
-                text,
-                (part, high.as_str()),
-                ("OutOfRange", path, *above),
-            )?;
-        if !refused {
+    for number in numbers {
+        if !is_checked(alloc, text, table, number)? {
             return Ok(false);
         }
     }
@@ -239,70 +313,38 @@ fn other_edits_of_stats(rt: HostRuntime) -> Result<(), Fail> {
 #[test]
 fn absent_keys_of_stats(rt: HostRuntime) -> Result<(), Fail> {
     let alloc = rt.alloc();
-    for (old, new, fields) in [
+    let rows: [((&str, &str), &[(usize, u32)]); 12] = [
+        (("version", "version"), &[]),
+        (("initial_quality = 7\n", ""), &[(INITIAL, 0)]),
+        (("progress_mod = 80\n", ""), &[(BASE_PROGRESS, 50)]),
+        (("quality_mod = 70\n", ""), &[(BASE_QUALITY, 101)]),
         (
-            "version",
-            "version",
-            [50, 180, 40, 150, 400, 7, 40, 71, 8, 300, 1],
+            ("penalty = true\n", ""),
+            &[(BASE_PROGRESS, 50), (BASE_QUALITY, 101)],
+        ),
+        (("target = 300\n", ""), &[(TARGET, 400)]),
+        (("trained_eye = true\n", ""), &[(FORBIDDEN, 33554440)]),
+        (
+            ("actions = {forbid = [\"observe\"], backload = true}\n", ""),
+            &[(FORBIDDEN, 0), (BACKLOAD, 0)],
+        ),
+        (("forbid = [\"observe\"], ", ""), &[(FORBIDDEN, 0)]),
+        ((", backload = true", ""), &[(BACKLOAD, 0)]),
+        (
+            (
+                "[\"observe\"]",
+                "[\"observe\", \"trained_eye\", \"observe\"]",
+            ),
+            &[(FORBIDDEN, 33554440)],
         ),
         (
-            "initial_quality = 7\n",
-            "",
-            [50, 180, 40, 150, 400, 0, 40, 71, 8, 300, 1],
+            ("trained_eye = true", "trained_eye = false"),
+            &[(FORBIDDEN, 33554440)],
         ),
-        (
-            "progress_mod = 80\n",
-            "",
-            [50, 180, 40, 150, 400, 7, 50, 71, 8, 300, 1],
-        ),
-        (
-            "quality_mod = 70\n",
-            "",
-            [50, 180, 40, 150, 400, 7, 40, 101, 8, 300, 1],
-        ),
-        (
-            "penalty = true\n",
-            "",
-            [50, 180, 40, 150, 400, 7, 50, 101, 8, 300, 1],
-        ),
-        (
-            "target = 300\n",
-            "",
-            [50, 180, 40, 150, 400, 7, 40, 71, 8, 400, 1],
-        ),
-        (
-            "trained_eye = true\n",
-            "",
-            [50, 180, 40, 150, 400, 7, 40, 71, 33554440, 300, 1],
-        ),
-        (
-            "actions = {forbid = [\"observe\"], backload = true}\n",
-            "",
-            [50, 180, 40, 150, 400, 7, 40, 71, 0, 300, 0],
-        ),
-        (
-            "forbid = [\"observe\"], ",
-            "",
-            [50, 180, 40, 150, 400, 7, 40, 71, 0, 300, 1],
-        ),
-        (
-            ", backload = true",
-            "",
-            [50, 180, 40, 150, 400, 7, 40, 71, 8, 300, 0],
-        ),
-        (
-            "[\"observe\"]",
-            "[\"observe\", \"trained_eye\", \"observe\"]",
-            [50, 180, 40, 150, 400, 7, 40, 71, 33554440, 300, 1],
-        ),
-        (
-            "trained_eye = true",
-            "trained_eye = false",
-            [50, 180, 40, 150, 400, 7, 40, 71, 33554440, 300, 1],
-        ),
-    ] {
-        let text = edited(alloc, STATS, old, new)?;
-        assert!(rt; gives(alloc, text.as_bytes(), fields), "{old} to {new}");
+    ];
+    for (edit, changes) in &rows {
+        let fields = changed(STATS_FIELDS, *changes);
+        assert!(rt; edit_gives(alloc, STATS, *edit, fields)?, "{}", edit.1);
     }
     Ok(())
 }
@@ -341,7 +383,7 @@ fn edits_of_base(rt: HostRuntime) -> Result<(), Fail> {
         ),
         (
             (
-                "version = 1\n[crafter]\nlevel = 5\ncp = 18\n[recipe]\ndurability = 20\nprogress = 100\nquality = 500\n[base]\nprogress = 120\nquality = 90\n",
+                BASE,
                 "base = 1\ncrafter = {level = 5, cp = 18}\n[recipe]\ndurability = 20\nprogress = 100\nquality = 500\n",
             ),
             ("WrongKind", "base", 0),
@@ -360,20 +402,13 @@ fn edits_of_base(rt: HostRuntime) -> Result<(), Fail> {
 #[test]
 fn versions_of_base(rt: HostRuntime) -> Result<(), Fail> {
     let alloc = rt.alloc();
-    for (old, new, fields) in [
-        (
-            "version = 1\n",
-            "",
-            [5, 18, 20, 100, 500, 0, 120, 90, 33554432, 500, 0],
-        ),
-        (
-            "version = 1",
-            "version = 2",
-            [5, 18, 20, 100, 500, 0, 120, 90, 33554432, 500, 0],
-        ),
-    ] {
-        let text = edited(alloc, BASE, old, new)?;
-        assert!(rt; gives(alloc, text.as_bytes(), fields), "{old} to {new}");
+    let rows: [((&str, &str), &[(usize, u32)]); 2] = [
+        (("version = 1\n", ""), &[]),
+        (("version = 1", "version = 2"), &[]),
+    ];
+    for (edit, changes) in &rows {
+        let fields = changed(BASE_FIELDS, *changes);
+        assert!(rt; edit_gives(alloc, BASE, *edit, fields)?, "{}", edit.1);
     }
     Ok(())
 }
@@ -465,40 +500,32 @@ fn ordinary_refused(rt: HostRuntime) -> Result<(), Fail> {
 #[test]
 fn ordinary_given(rt: HostRuntime) -> Result<(), Fail> {
     let alloc = rt.alloc();
-    for (old, new, fields) in [
+    let rows: [((&str, &str), &[(usize, u32)]); 6] = [
+        (("level = 5", "level = 5"), &[]),
         (
-            "level = 5",
-            "level = 5",
-            [5, 18, 20, 100, 500, 0, 100, 100, 33554432, 500, 0],
+            ("durability = 20", "durability = 100"),
+            &[(DURABILITY, 100)],
         ),
         (
-            "durability = 20",
-            "durability = 100",
-            [5, 18, 100, 100, 500, 0, 100, 100, 33554432, 500, 0],
+            (
+                "[crafter]\nlevel = 5\ncp = 18\n",
+                "crafter = {level = 5, cp = 18}\n",
+            ),
+            &[],
         ),
         (
-            "[crafter]\nlevel = 5\ncp = 18\n",
-            "crafter = {level = 5, cp = 18}\n",
-            [5, 18, 20, 100, 500, 0, 100, 100, 33554432, 500, 0],
+            ("quality = 500", "quality = 500\ntarget = 100"),
+            &[(TARGET, 100)],
         ),
         (
-            "quality = 500",
-            "quality = 500\ntarget = 100",
-            [5, 18, 20, 100, 500, 0, 100, 100, 33554432, 100, 0],
+            ("[base]", "[actions]\nbackload = true\n[base]"),
+            &[(BACKLOAD, 1)],
         ),
-        (
-            "[base]",
-            "[actions]\nbackload = true\n[base]",
-            [5, 18, 20, 100, 500, 0, 100, 100, 33554432, 500, 1],
-        ),
-        (
-            "[crafter]",
-            "version = 2\n[crafter]",
-            [5, 18, 20, 100, 500, 0, 100, 100, 33554432, 500, 0],
-        ),
-    ] {
-        let text = edited(alloc, ORDINARY, old, new)?;
-        assert!(rt; gives(alloc, text.as_bytes(), fields), "{old} to {new}");
+        (("[crafter]", "version = 2\n[crafter]"), &[]),
+    ];
+    for (edit, changes) in &rows {
+        let fields = changed(ORDINARY_FIELDS, *changes);
+        assert!(rt; edit_gives(alloc, ORDINARY, *edit, fields)?, "{}", edit.1);
     }
     Ok(())
 }
@@ -508,19 +535,54 @@ fn whole_files_refused(rt: HostRuntime) -> Result<(), Fail> {
     let alloc = rt.alloc();
     for (text, kind, path, value) in [
         (
-            "[crafter]\nlevel = 80\ncp = 250\n[recipe]\ndurability = 20\nprogress = 120\nquality = 5000\ntrained_eye = true\n[base]\nprogress = 100\nquality = 100\n",
+            "[crafter]
+level = 80
+cp = 250
+[recipe]
+durability = 20
+progress = 120
+quality = 5000
+trained_eye = true
+[base]
+progress = 100
+quality = 100
+",
             "UnknownKey",
             "recipe.trained_eye",
             0,
         ),
         (
-            "[crafter]\nlevel = 50\ncp = 180\ncraftsmanship = 0\ncontrol = 200\n[recipe]\ndurability = 40\nprogress = 150\nquality = 400\nprogress_div = 1000\nquality_div = 30\npenalty = true\nprogress_mod = 1\n",
+            "[crafter]
+level = 50
+cp = 180
+craftsmanship = 0
+control = 200
+[recipe]
+durability = 40
+progress = 150
+quality = 400
+progress_div = 1000
+quality_div = 30
+penalty = true
+progress_mod = 1
+",
             "OutOfRange",
             "base.progress",
             0,
         ),
         (
-            "[crafter]\nlevel = 50\ncp = 180\ncraftsmanship = 240\ncontrol = 10000\n[recipe]\ndurability = 40\nprogress = 150\nquality = 400\nprogress_div = 50\nquality_div = 1\n",
+            "[crafter]
+level = 50
+cp = 180
+craftsmanship = 240
+control = 10000
+[recipe]
+durability = 40
+progress = 150
+quality = 400
+progress_div = 50
+quality_div = 1
+",
             "OutOfRange",
             "base.quality",
             100035,
@@ -543,15 +605,49 @@ fn whole_files_given(rt: HostRuntime) -> Result<(), Fail> {
     let alloc = rt.alloc();
     for (text, fields) in [
         (
-            "version = 2\n[crafter]\nlevel = 80\ncp = 250\n[recipe]\ndurability = 20\nprogress = 120\nquality = 5000\ntrained_eye = true\n[base]\nprogress = 100\nquality = 100\n",
+            "version = 2
+[crafter]
+level = 80
+cp = 250
+[recipe]
+durability = 20
+progress = 120
+quality = 5000
+trained_eye = true
+[base]
+progress = 100
+quality = 100
+",
             [80, 250, 20, 120, 5000, 0, 100, 100, 0, 5000, 0],
         ),
         (
-            "[crafter]\nlevel = 50\ncp = 180\ncraftsmanship = 240\ncontrol = 200\n[recipe]\ndurability = 40\nprogress = 150\nquality = 400\nprogress_div = 50\nquality_div = 30\n",
+            "[crafter]
+level = 50
+cp = 180
+craftsmanship = 240
+control = 200
+[recipe]
+durability = 40
+progress = 150
+quality = 400
+progress_div = 50
+quality_div = 30
+",
             [50, 180, 40, 150, 400, 0, 50, 101, 33554432, 400, 0],
         ),
         (
-            "[crafter]\nlevel = 100\ncp = 600\ncraftsmanship = 4900\ncontrol = 4800\n[recipe]\ndurability = 70\nprogress = 7000\nquality = 15000\nprogress_div = 170\nquality_div = 150\n",
+            "[crafter]
+level = 100
+cp = 600
+craftsmanship = 4900
+control = 4800
+[recipe]
+durability = 70
+progress = 7000
+quality = 15000
+progress_div = 170
+quality_div = 150
+",
             [100, 600, 70, 7000, 15000, 0, 290, 355, 33554432, 15000, 0],
         ),
     ] {

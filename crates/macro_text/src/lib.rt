@@ -16,7 +16,8 @@ const BLOCK_LENGTH: usize = 15;
 
 /// The text of these actions: they are cut into fifteens, of which the last may have fewer. Each gives a block, the
 /// line `macro i` with i from 1 on, and then a line `/ac "Name" <wait.s>` for each of its actions, with the action's
-/// display name and its seconds. Each line ends with one LF byte.
+/// display name and its seconds. Each line ends with one LF byte. Of no actions the text is empty. Errors: only where memory
+/// runs out.
 pub fn blocks(alloc: Global, actions: &[Action]) -> Result<Vec<u8>, WantMemory>
     ensures { IfOk result (λ text. text.items ≡ blocks_of actions.now) }
 {

@@ -5,21 +5,8 @@ use craft_settings::Settings;
 use craft_state::Combo;
 use priced_moves::{Prices, Seen, Units};
 use std::test::Fail;
+use test_crafts::ORDINARY;
 use walk_table::{Limits, WalkTable};
-
-const ORDINARY: Settings = Settings {
-    level: 50,
-    cp: 180,
-    durability: 40,
-    progress: 150,
-    quality: 400,
-    initial: 0,
-    base_progress: 50,
-    base_quality: 101,
-    forbidden: 33554432,
-    target: 400,
-    backload: false,
-};
 
 const UNITS: Units = Units {
     progress: 31,

@@ -8,21 +8,14 @@ use craft_state::State;
 use priced_moves::{Prices, Units, limit, worth};
 use std::test::Fail;
 use step_rules::{check, is_final, start, step};
+use test_crafts::craft;
+use test_draws::draw;
 
 const UNITS: Units = Units {
     progress: 31,
     share: 2,
     quality: 3,
 };
-
-// One of the numbers below, drawn.
-fn draw(x: &mut u32, below: u32) -> u32
-    requires { 1 ≤ below }
-    ensures { result < below }
-{
-    *x = x.wrapping_mul(1103515245).wrapping_add(12345) & 0x7fffffff;
-    (*x >> 16) % below
-}
 
 fn drawn_craft(x: &mut u32) -> Settings {
     let level = 1 + draw(x, 100);
@@ -31,17 +24,11 @@ fn drawn_craft(x: &mut u32) -> Settings {
     let progress = 60 + draw(x, 120);
     let quality = 200 + draw(x, 400);
     Settings {
-        level,
-        cp,
-        durability,
-        progress,
-        quality,
-        initial: 0,
         base_progress: 60 + draw(x, 60),
         base_quality: 60 + draw(x, 60),
         forbidden: draw(x, 8192) * 8192 + draw(x, 8192),
-        target: quality,
         backload: draw(x, 4) == 0,
+        ..craft(level, cp, durability, progress, quality)
     }
 }
 

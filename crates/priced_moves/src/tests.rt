@@ -5,34 +5,8 @@ use super::*;
 use craft_settings::Settings;
 use craft_state::{Combo, Effects, Perfection, State};
 use std::test::Fail;
-
-const LARGE: Settings = Settings {
-    level: 100,
-    cp: 600,
-    durability: 70,
-    progress: 7000,
-    quality: 15000,
-    initial: 0,
-    base_progress: 290,
-    base_quality: 355,
-    forbidden: 33554432,
-    target: 15000,
-    backload: false,
-};
-
-const ORDINARY: Settings = Settings {
-    level: 50,
-    cp: 180,
-    durability: 40,
-    progress: 150,
-    quality: 400,
-    initial: 0,
-    base_progress: 50,
-    base_quality: 101,
-    forbidden: 33554432,
-    target: 400,
-    backload: false,
-};
+use test_crafts::{LARGE, ORDINARY, craft};
+use test_draws::draw;
 
 const LARGE_UNITS: Units = Units {
     progress: 26100,
@@ -201,32 +175,17 @@ fn edges_of_a_large_craft(rt: HostRuntime) -> Result<(), Fail> {
     Ok(())
 }
 
-// One of the numbers below, drawn.
-fn draw(x: &mut u32, below: u32) -> u32
-    requires { 1 ≤ below }
-    ensures { result < below }
-{
-    *x = x.wrapping_mul(1103515245).wrapping_add(12345) & 0x7fffffff;
-    (*x >> 16) % below
-}
-
 fn drawn_craft(x: &mut u32) -> Settings {
     let level = 1 + draw(x, 100);
     let durability = 10 + 5 * draw(x, 10);
     let progress = 100 + draw(x, 400);
     let quality = 200 + draw(x, 2000);
     Settings {
-        level,
-        cp: 1000,
-        durability,
-        progress,
-        quality,
-        initial: 0,
         base_progress: 40 + draw(x, 60),
         base_quality: 60 + draw(x, 60),
         forbidden: draw(x, 8192) * 8192 + draw(x, 8192),
-        target: quality,
         backload: draw(x, 4) == 0,
+        ..craft(level, 1000, durability, progress, quality)
     }
 }
 

@@ -6,15 +6,13 @@ use crate::{QualityTruth, ask, fill_budget, fill_column, limit};
 use action_table::{Action, WantMemory};
 use craft_settings::Settings;
 use race_core::{Core, Entry, Event};
-use relaxed_moves::{of_index, potential, start_potential};
+use relaxed_moves::{Relaxed, of_index, potential, start_potential};
 use seat_tables::{Seat, Shared};
 use std::alloc::Global;
 use std::test::Fail;
 use step_rules::{replay, start};
-use test_crafts::{
-    FOUR_STEPS, LEVEL_14, LEVEL_73, LEVEL_80, LEVEL_87, LEVEL_96, LEVEL_99, ONE_TOUCH,
-};
-use test_parts::{Word, state_of};
+use test_crafts::{FOUR_STEPS, ONE_TOUCH};
+use test_parts::{Table, Word, say_drawn};
 use worker_gate::FreeGate;
 
 fn first_touch() -> QualityTruth
@@ -186,44 +184,32 @@ fn two_seats_fill_a_budget(rt: HostRuntime) -> Result<(), Fail> {
     Ok(())
 }
 
-// Whether the table says this.
-fn says(table: &Shared<QualityTruth>, seat: &mut Seat<QualityTruth>, word: &Word) -> bool
-    requires { IsOf table.now seat.old }
-    ensures { IsOf table.now seat.new }
-{
-    let (first, effects, bucket, most) = *word;
-    match state_of(table.truth().grain, effects, bucket) {
-        Some(x) => first <= start_potential(&table.truth().g)
-            && ask(table, seat, first, &x) == most,
-        None => false,
-    }
+// The table of a craft, and a seat at it.
+#[derive(Drop)]
+struct Seated {
+    table: Shared<QualityTruth>,
+    seat: Seat<QualityTruth>,
+    ghost of: { IsOf table seat },
 }
 
-// Whether it says all of these words.
-fn says_all(table: &Shared<QualityTruth>, seat: &mut Seat<QualityTruth>, words: &[Word]) -> bool
-    requires { IsOf table.now seat.old }
-{
-    for word in words {
-        if !says(table, seat, word) {
-            return false;
+impl Table for Seated {
+    fn make(alloc: Global, g: &Settings, grain: u32) -> Result<Seated, WantMemory> {
+        let (table, seat) = Shared::new(alloc, QualityTruth::new(g, grain))?;
+        Ok(Seated { table, seat })
+    }
+
+    fn look(&mut self, first: u32, x: &Relaxed) -> Option<Option<u32>> {
+        let truth = self.table.truth();
+        if first > start_potential(&truth.g) || x.bucket > truth.grain {
+            return None;
         }
+        Some(ask(&self.table, &mut self.seat, first, x))
     }
-    true
 }
 
-// Whether the table of a craft says all of these words.
-fn told(alloc: Global, g: &Settings, grain: u32, words: &[Word]) -> Result<bool, WantMemory>
-    requires low { 1 ≤ grain }
-    requires high { grain ≤ 64 }
-{
-    let (table, mut seat) = Shared::new(alloc, QualityTruth::new(g, grain))?;
-    Ok(says_all(&table, &mut seat, words))
-}
-
-#[test]
-fn drawn_words(rt: HostRuntime) -> Result<(), Fail> {
-    let alloc = rt.alloc();
-    let words = [
+// Words of the tables of drawn crafts.
+const DRAWN: [[Word; 8]; 6] = [
+    [
         (130, 247, 2, Some(1420)),
         (109, 639, 7, Some(1148)),
         (26, 450, 6, None),
@@ -232,9 +218,8 @@ fn drawn_words(rt: HostRuntime) -> Result<(), Fail> {
         (23, 117, 4, None),
         (239, 394, 2, Some(2867)),
         (110, 554, 8, Some(1076)),
-    ];
-    assert!(rt; told(alloc, &LEVEL_14, 8, &words)?);
-    let words = [
+    ],
+    [
         (8, 370, 1, None),
         (14, 1080, 0, Some(0)),
         (79, 604, 0, Some(250)),
@@ -243,9 +228,8 @@ fn drawn_words(rt: HostRuntime) -> Result<(), Fail> {
         (46, 953, 0, Some(445)),
         (6, 811, 1, None),
         (89, 318, 0, Some(406)),
-    ];
-    assert!(rt; told(alloc, &LEVEL_87, 1, &words)?);
-    let words = [
+    ],
+    [
         (108, 322, 4, Some(276)),
         (159, 733, 3, Some(522)),
         (51, 152, 12, None),
@@ -254,9 +238,8 @@ fn drawn_words(rt: HostRuntime) -> Result<(), Fail> {
         (2, 210, 3, None),
         (81, 868, 2, Some(229)),
         (107, 678, 9, Some(340)),
-    ];
-    assert!(rt; told(alloc, &LEVEL_73, 12, &words)?);
-    let words = [
+    ],
+    [
         (114, 532, 4, Some(302)),
         (49, 439, 5, Some(0)),
         (56, 1014, 0, Some(528)),
@@ -265,9 +248,8 @@ fn drawn_words(rt: HostRuntime) -> Result<(), Fail> {
         (34, 231, 5, Some(0)),
         (78, 710, 2, Some(359)),
         (122, 87, 5, Some(273)),
-    ];
-    assert!(rt; told(alloc, &LEVEL_96, 6, &words)?);
-    let words = [
+    ],
+    [
         (12, 927, 6, None),
         (148, 446, 9, Some(812)),
         (272, 1070, 5, Some(2552)),
@@ -276,9 +258,8 @@ fn drawn_words(rt: HostRuntime) -> Result<(), Fail> {
         (185, 98, 4, Some(580)),
         (147, 775, 6, Some(986)),
         (99, 555, 8, Some(0)),
-    ];
-    assert!(rt; told(alloc, &LEVEL_80, 9, &words)?);
-    let words = [
+    ],
+    [
         (126, 527, 0, Some(2132)),
         (140, 23, 7, Some(1451)),
         (86, 822, 8, Some(1361)),
@@ -287,7 +268,11 @@ fn drawn_words(rt: HostRuntime) -> Result<(), Fail> {
         (127, 680, 2, Some(2313)),
         (168, 917, 4, Some(2389)),
         (191, 283, 6, Some(2817)),
-    ];
-    assert!(rt; told(alloc, &LEVEL_99, 8, &words)?);
+    ],
+];
+
+#[test]
+fn drawn_words(rt: HostRuntime) -> Result<(), Fail> {
+    assert!(rt; say_drawn::<Seated>(rt.alloc(), &DRAWN)?);
     Ok(())
 }

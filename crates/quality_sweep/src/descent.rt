@@ -14,8 +14,8 @@ use std::alloc::Global;
 // By which part of the first limit the floor falls from sweep to sweep.
 const PARTS: u32 = 80;
 
-/// The greatest quality that counts with which a list completes the craft from the state, and None where no list
-/// completes it.
+/// The greatest quality that counts, in points, with which a list completes the craft from the state. None exactly where no
+/// list completes it. Errors: only where memory runs out.
 pub fn greatest_from<C: Ceiling>(
     alloc: Global,
     outlook: &Outlook<'_, C>,

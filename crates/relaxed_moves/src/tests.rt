@@ -47,33 +47,14 @@ fn state(cp: u32, durability: u32, progress: u32, effects: Effects) -> State
 
 #[test]
 fn budgets(rt: HostRuntime) -> Result<(), Fail> {
-    assert_eq!(rt;
-        weights(&FOUR_STEPS),
-        Weights {
-            rho: 14,
-            sigma: 14,
-            slack: 14
-        }
-    );
-    assert_eq!(rt;
-        weights(&ORDINARY),
-        Weights {
-            rho: 14,
-            sigma: 12,
-            slack: 14
-        }
-    );
-    assert_eq!(rt;
-        weights(&LARGE),
-        Weights {
-            rho: 8,
-            sigma: 12,
-            slack: 24
-        }
-    );
-    assert_eq!(rt; start_potential(&FOUR_STEPS), 124);
-    assert_eq!(rt; start_potential(&ORDINARY), 306);
-    assert_eq!(rt; start_potential(&LARGE), 768);
+    for (g, rho, sigma, slack, whole) in [
+        (FOUR_STEPS, 14, 14, 14, 124),
+        (ORDINARY, 14, 12, 14, 306),
+        (LARGE, 8, 12, 24, 768),
+    ] {
+        assert_eq!(rt; weights(&g), Weights { rho, sigma, slack });
+        assert_eq!(rt; start_potential(&g), whole);
+    }
     assert_eq!(rt; quality_size(&LARGE, 16), 14380300);
     assert_eq!(rt; step_size(16), 1196800);
     assert_eq!(rt; potential(&FOUR_STEPS, &state(54, 20, 0, PLAIN)), 124);
@@ -107,198 +88,89 @@ fn relaxed_states(rt: HostRuntime) -> Result<(), Fail> {
     effects.perfection = Perfection::Ready;
     let s = state(300, 70, 3000, effects);
     assert_eq!(rt; potential(&LARGE, &s), 628);
-    assert_eq!(rt; relax(&LARGE, 16, &s), relaxed(9, 7, 4, 0, true, true));
+    let x = relax(&LARGE, 16, &s);
+    assert_eq!(rt; seen(&x), (9, [7, 4, 0], [true, true]));
     effects = PLAIN;
     effects.iq = 10;
     effects.veneration = 4;
     effects.muscle = 5;
     let s = state(11, 15, 37, effects);
     assert_eq!(rt; potential(&ORDINARY, &s), 67);
-    assert_eq!(rt;
-        relax(&ORDINARY, 16, &s),
-        relaxed(11, 10, 0, 4, false, true)
-    );
-    assert_eq!(rt; relax(&LARGE, 16, &s), relaxed(15, 10, 0, 4, false, true));
+    for (g, bucket) in [(ORDINARY, 11), (LARGE, 15)] {
+        let x = relax(&g, 16, &s);
+        assert_eq!(rt; seen(&x), (bucket, [10, 0, 4], [false, true]));
+    }
     Ok(())
 }
 
-fn relaxed(
-    bucket: u32,
-    iq: u32,
-    innovation: u32,
-    veneration: u32,
-    strides: bool,
-    muscle: bool,
-) -> Relaxed
-    requires iq { iq ≤ 10 }
-    requires innovation { innovation ≤ 4 }
-    requires veneration { veneration ≤ 4 }
-    ensures bucket { result.bucket ≡ bucket }
-{
-    Relaxed {
-        bucket,
-        iq,
-        innovation,
-        veneration,
-        strides,
-        muscle,
-    }
+// A relaxed state: its bucket; Inner Quiet, Innovation and Veneration; Great Strides and Muscle Memory.
+type Seen = (u32, [u32; 3], [bool; 2]);
+
+fn seen(x: &Relaxed) -> Seen {
+    (
+        x.bucket,
+        [x.iq, x.innovation, x.veneration],
+        [x.strides, x.muscle],
+    )
 }
 
-// Whether an action is a move of the large craft with this cost, gain and next state.
-fn leads(x: &Relaxed, action: Action, cost: u32, gain: u32, next: Relaxed) -> bool
+// An action, its cost, its gain and the relaxed state after it.
+type Move = (Action, u32, u32, Seen);
+
+// Whether an action is such a move of the large craft.
+fn leads(x: &Relaxed, row: &Move) -> bool
     requires { x.now.bucket ≤ 16 }
 {
     let g = LARGE;
+    let (action, cost, gain, next) = *row;
     is_move(&g, x, action)
         && move_cost(&g, action) == cost
         && move_gain(&g, x, action) == gain
-        && move_on(&g, 16, x, action) == next
+        && seen(&move_on(&g, 16, x, action)) == next
 }
 
 #[test]
 fn moves_of_a_large_craft(rt: HostRuntime) -> Result<(), Fail> {
-    let x = relaxed(16, 3, 2, 2, true, true);
-    assert!(rt;
-        leads(
-            &x,
-            Action::BasicSynthesis,
-            16,
-            0,
-            relaxed(14, 3, 1, 1, true, false)
-        )
-    );
-    assert!(rt;
-        leads(
-            &x,
-            Action::Veneration,
-            18,
-            0,
-            relaxed(16, 3, 1, 4, true, true)
-        )
-    );
-    assert!(rt;
-        leads(
-            &x,
-            Action::StandardTouch,
-            34,
-            1442,
-            relaxed(16, 4, 1, 1, false, true)
-        )
-    );
-    assert!(rt;
-        leads(
-            &x,
-            Action::Innovation,
-            18,
-            0,
-            relaxed(16, 3, 4, 1, true, true)
-        )
-    );
-    assert!(rt;
-        leads(
-            &x,
-            Action::ByregotsBlessing,
-            40,
-            1846,
-            relaxed(16, 0, 1, 1, false, true)
-        )
-    );
-    assert!(rt;
-        leads(
-            &x,
-            Action::PreparatoryTouch,
-            68,
-            2307,
-            relaxed(16, 5, 1, 1, false, true)
-        )
-    );
-    assert!(rt;
-        leads(
-            &x,
-            Action::Groundwork,
-            46,
-            0,
-            relaxed(10, 3, 1, 1, true, false)
-        )
-    );
-    assert!(rt;
-        leads(
-            &x,
-            Action::DelicateSynthesis,
-            48,
-            1153,
-            relaxed(13, 4, 1, 1, false, false)
-        )
-    );
-    assert!(rt;
-        leads(
-            &x,
-            Action::AdvancedTouch,
-            34,
-            1730,
-            relaxed(16, 4, 1, 1, false, true)
-        )
-    );
-    assert!(rt;
-        leads(
-            &x,
-            Action::PrudentSynthesis,
-            26,
-            0,
-            relaxed(13, 3, 1, 1, true, false)
-        )
-    );
-    assert!(rt;
-        leads(
-            &x,
-            Action::RefinedTouch,
-            40,
-            1153,
-            relaxed(16, 5, 1, 1, false, true)
-        )
-    );
-    assert!(rt; !is_move(&LARGE, &x, Action::TrainedFinesse));
-    let x = relaxed(10, 10, 1, 0, false, false);
-    assert!(rt;
-        leads(
-            &x,
-            Action::GreatStrides,
-            32,
-            0,
-            relaxed(10, 10, 0, 0, true, false)
-        )
-    );
-    assert!(rt;
-        leads(
-            &x,
-            Action::TrainedFinesse,
-            32,
-            1065,
-            relaxed(10, 10, 0, 0, false, false)
-        )
-    );
-    assert!(rt;
-        leads(
-            &x,
-            Action::CarefulSynthesis,
-            23,
-            0,
-            relaxed(8, 10, 0, 0, false, false)
-        )
-    );
-    assert!(rt;
-        leads(
-            &x,
-            Action::PrudentTouch,
-            33,
-            1065,
-            relaxed(10, 10, 0, 0, false, false)
-        )
-    );
-    assert!(rt;
-        !is_move(&LARGE, &x, Action::Reflect) && !is_move(&LARGE, &x, Action::Manipulation)
-    );
+    use Action::*;
+    let x = Relaxed {
+        bucket: 16,
+        iq: 3,
+        innovation: 2,
+        veneration: 2,
+        strides: true,
+        muscle: true,
+    };
+    for row in [
+        (BasicSynthesis, 16, 0, (14, [3, 1, 1], [true, false])),
+        (Veneration, 18, 0, (16, [3, 1, 4], [true, true])),
+        (StandardTouch, 34, 1442, (16, [4, 1, 1], [false, true])),
+        (Innovation, 18, 0, (16, [3, 4, 1], [true, true])),
+        (ByregotsBlessing, 40, 1846, (16, [0, 1, 1], [false, true])),
+        (PreparatoryTouch, 68, 2307, (16, [5, 1, 1], [false, true])),
+        (Groundwork, 46, 0, (10, [3, 1, 1], [true, false])),
+        (DelicateSynthesis, 48, 1153, (13, [4, 1, 1], [false, false])),
+        (AdvancedTouch, 34, 1730, (16, [4, 1, 1], [false, true])),
+        (PrudentSynthesis, 26, 0, (13, [3, 1, 1], [true, false])),
+        (RefinedTouch, 40, 1153, (16, [5, 1, 1], [false, true])),
+    ] {
+        assert!(rt; leads(&x, &row), "{row:?}");
+    }
+    assert!(rt; !is_move(&LARGE, &x, TrainedFinesse));
+    let x = Relaxed {
+        bucket: 10,
+        iq: 10,
+        innovation: 1,
+        ..NONE
+    };
+    for row in [
+        (GreatStrides, 32, 0, (10, [10, 0, 0], [true, false])),
+        (TrainedFinesse, 32, 1065, (10, [10, 0, 0], [false, false])),
+        (CarefulSynthesis, 23, 0, (8, [10, 0, 0], [false, false])),
+        (PrudentTouch, 33, 1065, (10, [10, 0, 0], [false, false])),
+    ] {
+        assert!(rt; leads(&x, &row), "{row:?}");
+    }
+    assert!(rt; !is_move(&LARGE, &x, Reflect) && !is_move(&LARGE, &x, Manipulation));
     Ok(())
 }
 
@@ -312,11 +184,16 @@ fn small_costs(rt: HostRuntime) -> Result<(), Fail> {
 
 #[test]
 fn places(rt: HostRuntime) -> Result<(), Fail> {
-    let x = relaxed(0, 0, 0, 1, true, true);
+    let x = Relaxed {
+        veneration: 1,
+        strides: true,
+        muscle: true,
+        ..NONE
+    };
     assert_eq!(rt; index(16, 0, &x), 7);
     assert_eq!(rt; of_index(16, 7), (0, x));
-    assert_eq!(rt; index(16, 0, &relaxed(0, 1, 0, 0, false, false)), 100);
-    assert_eq!(rt; index(16, 0, &relaxed(1, 0, 0, 0, false, false)), 1100);
+    assert_eq!(rt; index(16, 0, &Relaxed { iq: 1, ..NONE }), 100);
+    assert_eq!(rt; index(16, 0, &Relaxed { bucket: 1, ..NONE }), 1100);
     assert_eq!(rt; index(16, 1, &NONE), 18700);
     assert_eq!(rt; of_index(16, 18700), (1, NONE));
     Ok(())

@@ -4,13 +4,13 @@ ghost use Rattle.seat_tables.specs.Seats.{IsOf};
 use crate::{StepTruth, ask, within};
 use action_table::{Action, WantMemory};
 use craft_settings::Settings;
-use relaxed_moves::Relaxed;
+use relaxed_moves::{MOST_MOVES, Relaxed};
 use seat_tables::{Seat, Shared};
 use std::alloc::Global;
 use std::test::Fail;
 use step_rules::{replay, start};
-use test_crafts::{LEVEL_14, LEVEL_73, LEVEL_80, LEVEL_87, LEVEL_96, LEVEL_99, ONE_TOUCH};
-use test_parts::{Word, state_of};
+use test_crafts::ONE_TOUCH;
+use test_parts::{Table, Word, say_drawn};
 
 fn first_touch() -> StepTruth
     ensures { result.grain ≡ 16 }
@@ -70,43 +70,31 @@ fn each_step_counts(rt: HostRuntime) -> Result<(), Fail> {
     Ok(())
 }
 
-// Whether the table says this.
-fn says(table: &Shared<StepTruth>, seat: &mut Seat<StepTruth>, word: &Word) -> bool
-    requires { IsOf table.now seat.old }
-    ensures { IsOf table.now seat.new }
-{
-    let (first, effects, bucket, most) = *word;
-    match state_of(table.truth().grain, effects, bucket) {
-        Some(x) => first <= 63 && ask(table, seat, first, &x) == most,
-        None => false,
-    }
+// The table of a craft, and a seat at it.
+#[derive(Drop)]
+struct Seated {
+    table: Shared<StepTruth>,
+    seat: Seat<StepTruth>,
+    ghost of: { IsOf table seat },
 }
 
-// Whether it says all of these words.
-fn says_all(table: &Shared<StepTruth>, seat: &mut Seat<StepTruth>, words: &[Word]) -> bool
-    requires { IsOf table.now seat.old }
-{
-    for word in words {
-        if !says(table, seat, word) {
-            return false;
+impl Table for Seated {
+    fn make(alloc: Global, g: &Settings, grain: u32) -> Result<Seated, WantMemory> {
+        let (table, seat) = Shared::new(alloc, StepTruth::new(g, grain))?;
+        Ok(Seated { table, seat })
+    }
+
+    fn look(&mut self, first: u32, x: &Relaxed) -> Option<Option<u32>> {
+        if first > MOST_MOVES || x.bucket > self.table.truth().grain {
+            return None;
         }
+        Some(ask(&self.table, &mut self.seat, first, x))
     }
-    true
 }
 
-// Whether the table of a craft says all of these words.
-fn told(alloc: Global, g: &Settings, grain: u32, words: &[Word]) -> Result<bool, WantMemory>
-    requires low { 1 ≤ grain }
-    requires high { grain ≤ 64 }
-{
-    let (table, mut seat) = Shared::new(alloc, StepTruth::new(g, grain))?;
-    Ok(says_all(&table, &mut seat, words))
-}
-
-#[test]
-fn drawn_words(rt: HostRuntime) -> Result<(), Fail> {
-    let alloc = rt.alloc();
-    let words = [
+// Words of the tables of drawn crafts.
+const DRAWN: [[Word; 8]; 6] = [
+    [
         (29, 1053, 0, Some(17220)),
         (29, 571, 8, Some(16758)),
         (35, 146, 7, Some(18866)),
@@ -115,9 +103,8 @@ fn drawn_words(rt: HostRuntime) -> Result<(), Fail> {
         (10, 676, 0, Some(6182)),
         (27, 363, 6, Some(15092)),
         (22, 478, 7, Some(12495)),
-    ];
-    assert!(rt; told(alloc, &LEVEL_14, 8, &words)?);
-    let words = [
+    ],
+    [
         (63, 861, 0, Some(20054)),
         (43, 667, 0, Some(13908)),
         (25, 96, 1, Some(6988)),
@@ -126,9 +113,8 @@ fn drawn_words(rt: HostRuntime) -> Result<(), Fail> {
         (7, 763, 1, Some(2466)),
         (46, 227, 1, Some(13759)),
         (53, 131, 1, Some(15779)),
-    ];
-    assert!(rt; told(alloc, &LEVEL_87, 1, &words)?);
-    let words = [
+    ],
+    [
         (27, 648, 0, Some(4644)),
         (43, 755, 0, Some(7551)),
         (33, 254, 5, Some(5340)),
@@ -137,9 +123,8 @@ fn drawn_words(rt: HostRuntime) -> Result<(), Fail> {
         (17, 512, 9, Some(2421)),
         (6, 856, 11, Some(811)),
         (51, 197, 9, Some(8327)),
-    ];
-    assert!(rt; told(alloc, &LEVEL_73, 12, &words)?);
-    let words = [
+    ],
+    [
         (48, 358, 0, Some(10255)),
         (47, 150, 3, Some(9804)),
         (5, 1086, 2, Some(1408)),
@@ -148,9 +133,8 @@ fn drawn_words(rt: HostRuntime) -> Result<(), Fail> {
         (37, 192, 3, Some(7685)),
         (59, 632, 4, Some(12420)),
         (50, 253, 4, Some(10390)),
-    ];
-    assert!(rt; told(alloc, &LEVEL_96, 6, &words)?);
-    let words = [
+    ],
+    [
         (60, 888, 6, Some(28234)),
         (4, 451, 0, Some(2249)),
         (16, 1000, 4, Some(6960)),
@@ -159,9 +143,8 @@ fn drawn_words(rt: HostRuntime) -> Result<(), Fail> {
         (16, 893, 5, Some(7818)),
         (47, 341, 2, Some(21296)),
         (18, 236, 8, Some(7561)),
-    ];
-    assert!(rt; told(alloc, &LEVEL_80, 9, &words)?);
-    let words = [
+    ],
+    [
         (7, 542, 4, Some(4097)),
         (30, 556, 1, Some(17558)),
         (57, 242, 1, Some(33528)),
@@ -170,7 +153,11 @@ fn drawn_words(rt: HostRuntime) -> Result<(), Fail> {
         (42, 450, 7, Some(25029)),
         (52, 716, 4, Some(30672)),
         (19, 1068, 0, Some(12401)),
-    ];
-    assert!(rt; told(alloc, &LEVEL_99, 8, &words)?);
+    ],
+];
+
+#[test]
+fn drawn_words(rt: HostRuntime) -> Result<(), Fail> {
+    assert!(rt; say_drawn::<Seated>(rt.alloc(), &DRAWN)?);
     Ok(())
 }

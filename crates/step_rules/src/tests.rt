@@ -6,8 +6,8 @@ use craft_state::{Combo, Perfection, State};
 use std::test::Fail;
 use test_crafts::craft;
 
-// A state after a step: CP, durability, progress and quality; iq, waste, innovation, veneration, strides, muscle and
-// manipulation; combo and perfection.
+// CP, durability, progress and quality; iq, waste, innovation, veneration, strides, muscle and manipulation; combo and
+// perfection.
 type Seen = ([u32; 4], [u32; 7], Combo, Perfection);
 
 fn seen(s: &State) -> Seen {
@@ -28,247 +28,117 @@ fn seen(s: &State) -> Seen {
     )
 }
 
-// Actions that come first, one more, and the state after it.
-const STEPS: [(&[Action], Action, Seen); 31] = [
+// Actions that come first, one more, and the state after it, in which there is no combo, and perfection is ready.
+const STEPS: [(&[Action], Action, [u32; 4], [u32; 7]); 25] = [
     (
         &[MuscleMemory, Veneration],
         BasicSynthesis,
-        (
-            [576, 20, 600, 0],
-            [0, 0, 0, 3, 0, 0, 0],
-            Combo::NoCombo,
-            Perfection::Ready,
-        ),
-    ),
-    (
-        &[Innovation, GreatStrides],
-        BasicTouch,
-        (
-            [532, 30, 0, 250],
-            [1, 0, 2, 0, 0, 0, 0],
-            Combo::Basic,
-            Perfection::Ready,
-        ),
+        [576, 20, 600, 0],
+        [0, 0, 0, 3, 0, 0, 0],
     ),
     (
         &[Reflect, PreparatoryTouch],
         MastersMend,
-        (
-            [466, 40, 0, 540],
-            [4, 0, 0, 0, 0, 0, 0],
-            Combo::NoCombo,
-            Perfection::Ready,
-        ),
-    ),
-    (
-        &[Manipulation, BasicTouch, GreatStrides, PreparatoryTouch],
-        Observe,
-        (
-            [407, 30, 0, 540],
-            [3, 0, 0, 0, 0, 0, 4],
-            Combo::Standard,
-            Perfection::Ready,
-        ),
+        [466, 40, 0, 540],
+        [4, 0, 0, 0, 0, 0, 0],
     ),
     (
         &[WasteNotII, BasicTouch],
         WasteNot,
-        (
-            [428, 35, 0, 100],
-            [1, 4, 0, 0, 0, 0, 0],
-            Combo::NoCombo,
-            Perfection::Ready,
-        ),
+        [428, 35, 0, 100],
+        [1, 4, 0, 0, 0, 0, 0],
     ),
     (
         &[Innovation, BasicTouch],
         Veneration,
-        (
-            [546, 30, 0, 150],
-            [1, 0, 2, 4, 0, 0, 0],
-            Combo::NoCombo,
-            Perfection::Ready,
-        ),
-    ),
-    (
-        &[BasicTouch],
-        StandardTouch,
-        (
-            [564, 20, 0, 237],
-            [2, 0, 0, 0, 0, 0, 0],
-            Combo::Standard,
-            Perfection::Ready,
-        ),
+        [546, 30, 0, 150],
+        [1, 0, 2, 4, 0, 0, 0],
     ),
     (
         &[MuscleMemory],
         GreatStrides,
-        (
-            [562, 30, 300, 0],
-            [0, 0, 0, 0, 3, 4, 0],
-            Combo::NoCombo,
-            Perfection::Ready,
-        ),
+        [562, 30, 300, 0],
+        [0, 0, 0, 0, 3, 4, 0],
     ),
     (
         &[Manipulation, PreparatoryTouch],
         Innovation,
-        (
-            [446, 30, 0, 200],
-            [2, 0, 4, 0, 0, 0, 6],
-            Combo::NoCombo,
-            Perfection::Ready,
-        ),
+        [446, 30, 0, 200],
+        [2, 0, 4, 0, 0, 0, 6],
     ),
     (
         &[WasteNot, Innovation],
         WasteNotII,
-        (
-            [428, 40, 0, 0],
-            [0, 8, 3, 0, 0, 0, 0],
-            Combo::NoCombo,
-            Perfection::Ready,
-        ),
+        [428, 40, 0, 0],
+        [0, 8, 3, 0, 0, 0, 0],
     ),
     (
         &[Reflect, BasicTouch, GreatStrides],
         ByregotsBlessing,
-        (
-            [520, 10, 0, 836],
-            [0, 0, 0, 0, 0, 0, 0],
-            Combo::NoCombo,
-            Perfection::Ready,
-        ),
+        [520, 10, 0, 836],
+        [0, 0, 0, 0, 0, 0, 0],
     ),
-    (
-        &[],
-        MuscleMemory,
-        (
-            [594, 30, 300, 0],
-            [0, 0, 0, 0, 0, 5, 0],
-            Combo::NoCombo,
-            Perfection::Ready,
-        ),
-    ),
+    (&[], MuscleMemory, [594, 30, 300, 0], [0, 0, 0, 0, 0, 5, 0]),
     (
         &[MuscleMemory],
         CarefulSynthesis,
-        (
-            [587, 20, 660, 0],
-            [0, 0, 0, 0, 0, 0, 0],
-            Combo::NoCombo,
-            Perfection::Ready,
-        ),
+        [587, 20, 660, 0],
+        [0, 0, 0, 0, 0, 0, 0],
     ),
     (
         &[Manipulation, BasicTouch, BasicTouch],
         Manipulation,
-        (
-            [372, 30, 0, 210],
-            [2, 0, 0, 0, 0, 0, 8],
-            Combo::NoCombo,
-            Perfection::Ready,
-        ),
+        [372, 30, 0, 210],
+        [2, 0, 0, 0, 0, 0, 8],
     ),
     (
         &[BasicTouch],
         PrudentTouch,
-        (
-            [557, 25, 0, 210],
-            [2, 0, 0, 0, 0, 0, 0],
-            Combo::NoCombo,
-            Perfection::Ready,
-        ),
+        [557, 25, 0, 210],
+        [2, 0, 0, 0, 0, 0, 0],
     ),
-    (
-        &[],
-        Reflect,
-        (
-            [594, 30, 0, 300],
-            [2, 0, 0, 0, 0, 0, 0],
-            Combo::NoCombo,
-            Perfection::Ready,
-        ),
-    ),
+    (&[], Reflect, [594, 30, 0, 300], [2, 0, 0, 0, 0, 0, 0]),
     (
         &[WasteNot, Innovation],
         PreparatoryTouch,
-        (
-            [486, 30, 0, 300],
-            [2, 2, 3, 0, 0, 0, 0],
-            Combo::NoCombo,
-            Perfection::Ready,
-        ),
-    ),
-    (
-        &[Veneration, PreparatoryTouch, BasicTouch],
-        Groundwork,
-        (
-            [506, 0, 270, 320],
-            [3, 0, 0, 2, 0, 0, 0],
-            Combo::Basic,
-            Perfection::Ready,
-        ),
+        [486, 30, 0, 300],
+        [2, 2, 3, 0, 0, 0, 0],
     ),
     (
         &[WasteNot, Veneration],
         Groundwork,
-        (
-            [508, 30, 540, 0],
-            [0, 2, 0, 3, 0, 0, 0],
-            Combo::NoCombo,
-            Perfection::Ready,
-        ),
+        [508, 30, 540, 0],
+        [0, 2, 0, 3, 0, 0, 0],
     ),
     (
         &[Veneration, Innovation],
         DelicateSynthesis,
-        (
-            [532, 30, 225, 150],
-            [1, 0, 3, 2, 0, 0, 0],
-            Combo::NoCombo,
-            Perfection::Ready,
-        ),
+        [532, 30, 225, 150],
+        [1, 0, 3, 2, 0, 0, 0],
     ),
     (
         &[BasicTouch, StandardTouch],
         AdvancedTouch,
-        (
-            [546, 10, 0, 417],
-            [3, 0, 0, 0, 0, 0, 0],
-            Combo::NoCombo,
-            Perfection::Ready,
-        ),
+        [546, 10, 0, 417],
+        [3, 0, 0, 0, 0, 0, 0],
     ),
     (
         &[Observe],
         AdvancedTouch,
-        (
-            [575, 30, 0, 150],
-            [1, 0, 0, 0, 0, 0, 0],
-            Combo::NoCombo,
-            Perfection::Ready,
-        ),
+        [575, 30, 0, 150],
+        [1, 0, 0, 0, 0, 0, 0],
     ),
     (
         &[Observe, BasicTouch, Observe],
         StandardTouch,
-        (
-            [536, 20, 0, 237],
-            [2, 0, 0, 0, 0, 0, 0],
-            Combo::NoCombo,
-            Perfection::Ready,
-        ),
+        [536, 20, 0, 237],
+        [2, 0, 0, 0, 0, 0, 0],
     ),
     (
         &[Veneration],
         PrudentSynthesis,
-        (
-            [564, 35, 270, 0],
-            [0, 0, 0, 3, 0, 0, 0],
-            Combo::NoCombo,
-            Perfection::Ready,
-        ),
+        [564, 35, 270, 0],
+        [0, 0, 0, 3, 0, 0, 0],
     ),
     (
         &[
@@ -281,82 +151,99 @@ const STEPS: [(&[Action], Action, Seen); 31] = [
             PreparatoryTouch,
         ],
         TrainedFinesse,
-        (
-            [192, 20, 0, 1700],
-            [10, 2, 0, 0, 0, 0, 0],
-            Combo::NoCombo,
-            Perfection::Ready,
-        ),
+        [192, 20, 0, 1700],
+        [10, 2, 0, 0, 0, 0, 0],
     ),
     (
         &[BasicTouch],
         RefinedTouch,
-        (
-            [558, 20, 0, 210],
-            [3, 0, 0, 0, 0, 0, 0],
-            Combo::NoCombo,
-            Perfection::Ready,
-        ),
+        [558, 20, 0, 210],
+        [3, 0, 0, 0, 0, 0, 0],
     ),
     (
         &[Observe],
         RefinedTouch,
-        (
-            [569, 30, 0, 100],
-            [1, 0, 0, 0, 0, 0, 0],
-            Combo::NoCombo,
-            Perfection::Ready,
-        ),
+        [569, 30, 0, 100],
+        [1, 0, 0, 0, 0, 0, 0],
     ),
     (
         &[Manipulation, PreparatoryTouch, BasicTouch],
         ImmaculateMend,
-        (
-            [334, 40, 0, 320],
-            [3, 0, 0, 0, 0, 0, 5],
-            Combo::NoCombo,
-            Perfection::Ready,
-        ),
+        [334, 40, 0, 320],
+        [3, 0, 0, 0, 0, 0, 5],
+    ),
+    (&[], TrainedEye, [350, 30, 0, 3000], [0, 0, 0, 0, 0, 0, 0]),
+];
+
+// The same with combos and with perfection.
+const COMBOS: [(&[Action], Action, [u32; 4], [u32; 7], Combo, Perfection); 6] = [
+    (
+        &[Innovation, GreatStrides],
+        BasicTouch,
+        [532, 30, 0, 250],
+        [1, 0, 2, 0, 0, 0, 0],
+        Combo::Basic,
+        Perfection::Ready,
+    ),
+    (
+        &[Manipulation, BasicTouch, GreatStrides, PreparatoryTouch],
+        Observe,
+        [407, 30, 0, 540],
+        [3, 0, 0, 0, 0, 0, 4],
+        Combo::Standard,
+        Perfection::Ready,
+    ),
+    (
+        &[BasicTouch],
+        StandardTouch,
+        [564, 20, 0, 237],
+        [2, 0, 0, 0, 0, 0, 0],
+        Combo::Standard,
+        Perfection::Ready,
+    ),
+    (
+        &[Veneration, PreparatoryTouch, BasicTouch],
+        Groundwork,
+        [506, 0, 270, 320],
+        [3, 0, 0, 2, 0, 0, 0],
+        Combo::Basic,
+        Perfection::Ready,
     ),
     (
         &[Manipulation],
         TrainedPerfection,
-        (
-            [504, 40, 0, 0],
-            [0, 0, 0, 0, 0, 0, 7],
-            Combo::NoCombo,
-            Perfection::On,
-        ),
+        [504, 40, 0, 0],
+        [0, 0, 0, 0, 0, 0, 7],
+        Combo::NoCombo,
+        Perfection::On,
     ),
     (
         &[TrainedPerfection, Innovation],
         PreparatoryTouch,
-        (
-            [542, 40, 0, 300],
-            [2, 0, 3, 0, 0, 0, 0],
-            Combo::NoCombo,
-            Perfection::Spent,
-        ),
-    ),
-    (
-        &[],
-        TrainedEye,
-        (
-            [350, 30, 0, 3000],
-            [0, 0, 0, 0, 0, 0, 0],
-            Combo::NoCombo,
-            Perfection::Ready,
-        ),
+        [542, 40, 0, 300],
+        [2, 0, 3, 0, 0, 0, 0],
+        Combo::NoCombo,
+        Perfection::Spent,
     ),
 ];
 
+// What is seen of the state after a step of a craft that allows all.
+fn stepped(before: &[Action], action: Action) -> Result<Seen, Fail> {
+    let g = craft(100, 600, 40, 1000, 3000);
+    let state = replay(&g, &start(&g), before).ok().ok_or("stopped")?;
+    check(&g, &state, action).ok().ok_or("not legal")?;
+    Ok(seen(&step(&g, &state, action)))
+}
+
 #[test]
 fn each_action_steps(rt: HostRuntime) -> Result<(), Fail> {
-    let g = craft(100, 600, 40, 1000, 3000);
-    for (before, action, after) in &STEPS {
-        let state = replay(&g, &start(&g), before).ok().ok_or("stopped")?;
-        check(&g, &state, *action).ok().ok_or("not legal")?;
-        assert_eq!(rt; seen(&step(&g, &state, *action)), *after);
+    for (before, action, numbers, effects) in &STEPS {
+        let after = (*numbers, *effects, Combo::NoCombo, Perfection::Ready);
+        assert_eq!(rt; stepped(before, *action)?, after);
+    }
+    for (before, action, numbers, effects, combo, perfection) in &COMBOS {
+        let after = (*numbers, *effects, *combo, *perfection);
+        assert_eq!(rt; stepped(before, *action)?, after);
     }
     Ok(())
 }

@@ -85,6 +85,7 @@ pub fn craft_file(alloc: Global, numbers: [u32; 5]) -> Result<String, AllocError
 
 // Drawn crafts, named by their levels.
 
+/// A drawn craft of level 14.
 pub const LEVEL_14: Settings = Settings {
     level: 14,
     cp: 115,
@@ -99,6 +100,7 @@ pub const LEVEL_14: Settings = Settings {
     backload: false,
 };
 
+/// A drawn craft of level 73.
 pub const LEVEL_73: Settings = Settings {
     level: 73,
     cp: 92,
@@ -113,6 +115,7 @@ pub const LEVEL_73: Settings = Settings {
     backload: true,
 };
 
+/// A drawn craft of level 80.
 pub const LEVEL_80: Settings = Settings {
     level: 80,
     cp: 119,
@@ -127,6 +130,7 @@ pub const LEVEL_80: Settings = Settings {
     backload: true,
 };
 
+/// A drawn craft of level 87.
 pub const LEVEL_87: Settings = Settings {
     level: 87,
     cp: 38,
@@ -141,6 +145,7 @@ pub const LEVEL_87: Settings = Settings {
     backload: false,
 };
 
+/// A drawn craft of level 96.
 pub const LEVEL_96: Settings = Settings {
     level: 96,
     cp: 26,
@@ -155,6 +160,7 @@ pub const LEVEL_96: Settings = Settings {
     backload: false,
 };
 
+/// A drawn craft of level 99.
 pub const LEVEL_99: Settings = Settings {
     level: 99,
     cp: 110,
