@@ -2,6 +2,8 @@
 ghost use Rattle.std.specs.Prelude.{◌≡◌, ◌≤◌, ◌<◌, ◌+◌, ℕ, IfOk, IsOk, All, length, slice_index_or};
 ghost use Rattle.std.specs.List.{flat_map};
 ghost use Rattle.worker_gate.specs.Cut.{cut};
+ghost use Rattle.pareto_front.specs.Covers.{uncovered};
+ghost use Rattle.pareto_front.specs.Pieces.{nodes_of};
 ghost use Rattle.front_walk.specs.Asking.{AllMayAsk, AllStillAsk, HasFound, nodes_in};
 ghost use Rattle.front_walk.specs.Nodes.{goes_and_passes, nodes_by, nodes_upto, roots, roots_upto};
 
@@ -10,12 +12,12 @@ use crate::state_test::StateTest;
 use crate::walk::{Stage, Walk};
 use crate::walker::Walker;
 use action_table::{Action, WantMemory};
-use pareto_front::{Node, PackedNode};
+use pareto_front::{Node, PackedNode, prune_lists};
 use std::alloc::Global;
 use std::thread::Threads;
 use worker_gate::{Crew, Gate, range_of};
 
-/// The children of the nodes of a level that go on and pass, in order.
+/// The children of the nodes of a level that go on and pass, and that no other of them covers, in order.
 pub(crate) fn expand<T: StateTest, R: Threads + Sync, G: Gate>(
     crew: &mut Crew<'_, R, G, Walker<T::Asker>>,
     alloc: Global,
@@ -24,16 +26,29 @@ pub(crate) fn expand<T: StateTest, R: Threads + Sync, G: Gate>(
     requires askers { AllMayAsk (T.may_ask stage.now.walk.now.test.now) crew.old.workers }
     ensures askers { AllMayAsk (T.may_ask stage.now.walk.now.test.now) crew.new.workers }
     ensures still { AllStillAsk T.still_asks crew.old.workers crew.new.workers }
-    ensures children { let w = stage.now.walk.now in
-        IfOk result (λ v. v.items ≡ nodes_by w.g.now (goes_and_passes w.g.now (T.passes w.test.now) stage.now.left) stage.now.nodes.now) }
+    ensures kept { let w = stage.now.walk.now in IfOk result (λ v. v.items
+        ≡ uncovered (nodes_by w.g.now (goes_and_passes w.g.now (T.passes w.test.now) stage.now.left) stage.now.nodes.now)) }
 {
     expand_ranges(crew, alloc, stage);
-    let children = gather(alloc, crew.workers());
+    let kept = prune_found(crew.rt(), alloc, crew.workers());
     let_go(crew, alloc);
-    children
+    kept
 }
 
-// Each worker lets go of what it found, whose memory the pruning can then use.
+// Of what the workers found the nodes that no other of them covers, in order.
+fn prune_found<A>(
+    rt: &(impl Threads + Sync),
+    alloc: Global,
+    walkers: &[Walker<A>],
+) -> Result<Vec<PackedNode>, WantMemory>
+    ensures kept { IfOk result (λ v. v.items ≡ uncovered (flat_map (λ w. nodes_in w.found) walkers.now)) }
+    ensures whole { IfOk result (λ _. All (λ w. IsOk w.found) walkers.now) }
+{
+    let lists = lists_of(alloc, walkers)?;
+    prune_lists(rt, alloc, &lists)
+}
+
+// Each worker lets go of what it found.
 fn let_go<A: Send, R: Threads + Sync, G: Gate>(crew: &mut Crew<'_, R, G, Walker<A>>, alloc: Global)
     ensures as_many { length crew.new.workers ≡ length crew.old.workers }
     ensures asker { (k : ℕ) (d : _) → k < length crew.old.workers →
@@ -174,12 +189,32 @@ fn gather<A>(alloc: Global, walkers: &[Walker<A>]) -> Result<Vec<PackedNode>, Wa
     ensures nodes { IfOk result (λ v. v.items ≡ flat_map (λ w. nodes_in w.found) walkers.now) }
     ensures whole { IfOk result (λ _. All (λ w. IsOk w.found) walkers.now) }
 {
+    let lists = lists_of(alloc, walkers)?;
+    join(alloc, &lists)
+}
+
+// The lists, one after another.
+fn join(alloc: Global, lists: &[&[PackedNode]]) -> Result<Vec<PackedNode>, WantMemory>
+    ensures { IfOk result (λ v. v.items ≡ nodes_of lists.now) }
+{
     let mut nodes = Vec::new(alloc);
+    for list in lists {
+        nodes.extend_from_slice(list)?;
+    }
+    Ok(nodes)
+}
+
+// The lists that the workers found, as they are.
+fn lists_of<A>(alloc: Global, walkers: &[Walker<A>]) -> Result<Vec<&[PackedNode]>, WantMemory>
+    ensures nodes { IfOk result (λ lists. nodes_of lists.items ≡ flat_map (λ w. nodes_in w.found) walkers.now) }
+    ensures whole { IfOk result (λ _. All (λ w. IsOk w.found) walkers.now) }
+{
+    let mut lists = Vec::new(alloc);
     for walker in walkers {
         match &walker.found {
-            Ok(found) => nodes.extend_from_slice(found)?,
+            Ok(found) => lists.push(found.as_slice())?,
             Err(_) => return Err(WantMemory),
         }
     }
-    Ok(nodes)
+    Ok(lists)
 }

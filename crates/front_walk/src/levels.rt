@@ -10,7 +10,7 @@ use crate::state_test::StateTest;
 use crate::walk::{Stage, Walk};
 use crate::walker::Walker;
 use action_table::WantMemory;
-use pareto_front::{PackedNode, prune_packed};
+use pareto_front::PackedNode;
 use std::alloc::Global;
 use std::thread::Threads;
 use worker_gate::{Crew, Gate};
@@ -84,6 +84,5 @@ fn next_level<T: StateTest, R: Threads + Sync, G: Gate>(
         return Ok(Vec::new(alloc));
     }
     let stage = Stage { walk, left, nodes };
-    let children = expand(crew, alloc, &stage)?;
-    prune_packed(crew.rt(), alloc, children)
+    expand(crew, alloc, &stage)
 }

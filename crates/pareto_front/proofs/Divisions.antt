@@ -95,15 +95,16 @@ parts-more level from count parts i n inside at bounds low is are = record {
     | inr other ↦ subst (λ (l : List Entry). Contains l e) (sym (get_or-set_other parts i g grown [] other)) h
   ]
 
--- the same of parts in vectors
+-- the same of parts in vectors, of which there are as many as before
+pub length-step : {A : Type 0} (parts later : List (Vec Entry A)) (i : ℕ) (part : List Entry) → items_of later ≡ set (items_of parts) i part → length later ≡ length parts
+length-step parts later i part grown = sym (length-items later) ∙ ap length grown ∙ length-set (items_of parts) i part ∙ length-items parts
+
 pub parts-step : {A : Type 0} (level : List Node) (from count most : ℕ) (parts later : List (Vec Entry A)) (i : ℕ) (n : Node) (e : Entry) → count < length level → n ≡ get_or level count n → AreEffects n.state.effects →
     length parts ≡ most → i < most → i ≡ part_of e.key most → e ≡ entry_of count n → items_of later ≡ set (items_of parts) i (get_or (items_of parts) i [] ++ e ∷ []) → AreParts level from count (items_of parts) →
-    (length later ≡ most) × AreParts level from (count + 1) (items_of later)
+    AreParts level from (count + 1) (items_of later)
 parts-step level from count most parts later i n e inside at bounds long low is entry grown are =
     let many : length (items_of parts) ≡ most = length-items parts ∙ long in
     let key : i ≡ part_of (key_of n.state) (length (items_of parts)) = is ∙ ap (λ (x : Entry). part_of x.key most) entry ∙ ap (part_of (key_of n.state)) (sym many) in
     let mine : items_of later ≡ set (items_of parts) i (get_or (items_of parts) i [] ++ entry_of count n ∷ []) =
-    grown ∙ ap (λ (x : Entry). set (items_of parts) i (get_or (items_of parts) i [] ++ x ∷ [])) entry in (
-      sym (length-items later) ∙ ap length grown ∙ length-set (items_of parts) i (get_or (items_of parts) i [] ++ e ∷ []) ∙ many,
-      subst (AreParts level from (count + 1)) (sym mine) (parts-more level from count (items_of parts) i n inside at bounds (omega (arith, low, many)) key are),
-    )
+    grown ∙ ap (λ (x : Entry). set (items_of parts) i (get_or (items_of parts) i [] ++ x ∷ [])) entry in
+    subst (AreParts level from (count + 1)) (sym mine) (parts-more level from count (items_of parts) i n inside at bounds (omega (arith, low, many)) key are)

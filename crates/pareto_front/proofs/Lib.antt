@@ -1,4 +1,5 @@
 pub mod Covered
+pub mod Cuts
 pub mod Divisions
 pub mod Indexed
 pub mod Joins

@@ -5,3 +5,4 @@ pub mod Keys
 pub mod Lists
 pub mod Packed
 pub mod Parts
+pub mod Pieces

@@ -1,5 +1,5 @@
 -- The nodes of a level in parts, so that nodes with equal progress and effects are in one part, and what is kept of a part.
-use Rattle.std.specs.Prelude.{ℕ, Bool, true, false, not, List, [], ◌∷◌, ◌++◌, ◌⊎◌, ◌≡◌, ◌*◌, ◌/◌, ◌%◌, ◌^◌, ◌<◌, ◌≤◌, ◌&&◌, ◌||◌, ◌==◌, nat_lt, nat_le, if◌then◌else◌, ◌+◌, length, map, filter, slice_index_or, Contains, Vec}
+use Rattle.std.specs.Prelude.{ℕ, Bool, true, false, not, List, [], ◌∷◌, ◌++◌, ◌⊎◌, ◌≡◌, ◌*◌, ◌/◌, ◌%◌, ◌^◌, ◌<◌, ◌≤◌, ◌&&◌, ◌||◌, ◌==◌, nat_lt, ◌+◌, length, map, filter, slice_index_or, Contains, Vec}
 use Rattle.std.specs.List.{list_any, enumerate_from, flat_map}
 use Rattle.craft_state.specs.Craft.{AreEffects}
 use Rattle.pareto_front.specs.declared.node.Node.{Node}
@@ -7,6 +7,8 @@ use Rattle.pareto_front.specs.declared.parts.Entry.{Entry}
 use Rattle.pareto_front.specs.Columns.{Numbers, numbers_of, are_no_less, NoneEnough, IsFirstEnough}
 use Rattle.pareto_front.specs.Keys.{key_of}
 use Rattle.pareto_front.specs.Lists.{items_of}
+use Rattle.pareto_front.specs.Pieces.{Stands}
+use Rattle.pareto_front.specs.declared.piece.Piece.{Piece}
 
 -- the part of a key, of so many parts: the bits in the middle of a product
 unfoldable pub part_of : ℕ → ℕ → ℕ
@@ -71,14 +73,10 @@ pub record AreParts (level : List Node) (from to : ℕ) (parts : List (List Entr
 abbrev pub part_count : ℕ → ℕ
 part_count len = len / 16384 + 1
 
--- where a run of the level begins
-unfoldable pub run_start : ℕ → ℕ → ℕ
-run_start k len = if nat_le k (len / 65536) then k * 65536 else len
-
--- the entries of a run of the level in as many parts as the level has
-pub record IsRun (level : List Node) (k : ℕ) (parts : List (List Entry)) : Type 0 where
-  pub many : length parts ≡ part_count (length level)
-  pub are : AreParts level (run_start k (length level)) (run_start (k + 1) (length level)) parts
+-- the entries of a piece of a level in so many parts, wherever it stands
+pub record IsRun (count : ℕ) (piece : Piece) (parts : List (List Entry)) : Type 0 where
+  pub many : length parts ≡ count
+  pub are : (level : List Node) → Stands level piece → AreParts level piece.start (piece.start + length piece.nodes.now) parts
 
 -- a part of the level: what the runs have of it, one after another
 abbrev pub joined : List (List (List Entry)) → ℕ → List Entry
@@ -100,6 +98,9 @@ pub record AreMarks (count : ℕ) (kept : List (List ℕ)) (marks : List Bool) :
   pub as_many : length marks ≡ count
   pub set : (j : ℕ) (d : Bool) → j < count → slice_index_or marks j d ≡ list_any (has_place j) kept
 
--- the elements whose marks are set, in order
+-- the elements whose marks are set, in order, where the first stands at a place
+abbrev pub marked_from : {X : Type 0} → ℕ → List Bool → List X → List X
+marked_from place marks xs = map (λ p. p.1) (filter (λ p. slice_index_or marks p.0 false) (enumerate_from place xs))
+
 abbrev pub marked_of : {X : Type 0} → List Bool → List X → List X
-marked_of marks xs = map (λ p. p.1) (filter (λ p. slice_index_or marks p.0 false) (enumerate_from 0 xs))
+marked_of marks xs = marked_from 0 marks xs

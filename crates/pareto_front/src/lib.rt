@@ -1,19 +1,21 @@
 //! Nodes of a search that no other node covers, and states that are kept where none covers them.
 #![tactic(auto)]
 
-ghost use Rattle.std.specs.Prelude.{◌≡◌, IfOk, length};
+ghost use Rattle.std.specs.Prelude.{◌≡◌, IfOk};
 ghost use Rattle.pareto_front.specs.Covers.{uncovered};
-ghost use Rattle.pareto_front.specs.Lists.{items_of};
-ghost use Rattle.pareto_front.specs.Parts.{AreMarked, AreMarks, marked_of};
+ghost use Rattle.pareto_front.specs.Pieces.{nodes_of};
 
 mod columns;
 mod compact;
 mod kept;
 mod key;
 pub mod laws;
+mod marking;
 mod node;
 mod numbers;
 mod parts;
+mod piece;
+mod pieces;
 mod sweep;
 #[cfg(test)]
 mod tests;
@@ -22,8 +24,10 @@ use action_table::WantMemory;
 pub use columns::Columns;
 pub use compact::PackedNode;
 pub use kept::Kept;
+use marking::{keep_marked, marks_of};
 pub use node::Node;
 use parts::{divide, part_count};
+use pieces::pieces_of;
 use std::alloc::Global;
 use std::thread::Threads;
 use sweep::keep_all;
@@ -74,49 +78,22 @@ pub fn prune_packed(
 ) -> Result<Vec<PackedNode>, WantMemory>
     ensures { IfOk result (λ kept. kept.items ≡ uncovered level.items) }
 {
-    let runs = divide(rt, alloc, &level)??;
-    let kept = keep_all(rt, alloc, &runs, part_count(level.len()))??;
+    prune_lists(rt, alloc, &[level.as_slice()])
+}
+
+/// The same of a level that stands in several lists, one after another. From as many threads as there are processors.
+pub fn prune_lists(
+    rt: &(impl Threads + Sync),
+    alloc: Global,
+    lists: &[&[PackedNode]],
+) -> Result<Vec<PackedNode>, WantMemory>
+    ensures { IfOk result (λ kept. kept.items ≡ uncovered (nodes_of lists.now)) }
+{
+    let level = pieces_of(alloc, lists)?;
+    let runs = divide(rt, alloc, &level.pieces, level.len)??;
+    let kept = keep_all(rt, alloc, &runs, part_count(level.len))??;
     drop(runs);
-    let marks = marks_of(alloc, level.len(), &kept)?;
-    let mut left = level;
-    keep_marked(&mut left, &marks);
-    Ok(left)
-}
-
-// For each place, whether it is among those that are kept.
-fn marks_of(alloc: Global, count: usize, kept: &[Vec<usize>]) -> Result<Vec<bool>, WantMemory>
-    ensures { IfOk result (λ marks. AreMarks count (items_of kept.now) marks.items) }
-{
-    let mut marks = vec![in alloc; false; count]?;
-    for places in kept {
-        mark(&mut marks, places);
-    }
-    Ok(marks)
-}
-
-// Marks places.
-fn mark(marks: &mut [bool], places: &[usize])
-    ensures { AreMarked places.now marks.old marks.new }
-{
-    for place in places {
-        if *place < marks.len() {
-            marks[*place] = true;
-        }
-    }
-}
-
-// Leaves the nodes that are marked, and gives the rest of the memory back.
-fn keep_marked(level: &mut Vec<PackedNode>, marks: &[bool])
-    requires { length marks.now ≡ length level.old.items }
-    ensures { level.new.items ≡ marked_of marks.now level.old.items }
-{
-    let mut count = 0;
-    for place in 0..level.len() {
-        if marks[place] {
-            level[count] = level[place];
-            count += 1;
-        }
-    }
-    level.truncate(count);
-    level.shrink_to_fit();
+    let marks = marks_of(alloc, level.len, &kept)?;
+    drop(kept);
+    keep_marked(rt, alloc, &level, &marks)
 }

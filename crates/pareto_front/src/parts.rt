@@ -1,12 +1,13 @@
 ghost use Rattle.std.specs.Prelude.{ℕ, ◌≡◌, ◌<◌, ◌≤◌, ◌+◌, ◌/◌, IfOk, length, OnOk, [], ◌++◌, ◌∷◌, slice_index_or, slice_set};
-ghost use Rattle.std.specs.List.{AllZip, range_with_len};
+ghost use Rattle.std.specs.List.{AllZip};
 ghost use Rattle.craft_state.specs.Craft.{AreEffects};
 ghost use Rattle.pareto_front.specs.Lists.{items_of};
-ghost use Rattle.pareto_front.specs.Parts.{IsRun, entry_of, joined, part_count, part_of, run_start, runs_of};
+ghost use Rattle.pareto_front.specs.Parts.{IsRun, entry_of, joined, part_count, part_of, runs_of};
 
 use crate::compact::PackedNode;
 use crate::key::key_of;
 use crate::numbers::Numbers;
+use crate::piece::Piece;
 use action_table::WantMemory;
 use rayon::prelude::*;
 use std::alloc::{AllocError, Global};
@@ -24,9 +25,6 @@ pub(crate) struct Entry {
 // How many nodes there are for each part. The entries of a part then fit a processor's own cache.
 const PART: usize = 16384;
 
-// How many nodes are divided at once by one thread.
-const RUN: usize = 65536;
-
 // An odd number whose products spread keys that differ in a few bits.
 const SPREAD: u64 = 0x9E37_79B9_7F4A_7C15;
 
@@ -37,66 +35,46 @@ pub(crate) fn part_count(len: usize) -> usize
     len / PART + 1
 }
 
-/// The entries of the nodes of a level in runs, each in parts, from as many threads as there are processors. All
-/// entries with one key are in one part.
+/// The entries of the pieces of a level of so many nodes, each in the parts of the level, from as many threads as there
+/// are processors. All entries with one key are in one part.
 pub(crate) fn divide(
     rt: &(impl Threads + Sync),
     alloc: Global,
-    level: &[PackedNode],
+    pieces: &[Piece<'_>],
+    len: usize,
 ) -> Result<Result<Vec<Vec<Vec<Entry>>>, WantMemory>, AllocError>
     ensures { IfOk result (λ divided. IfOk divided (λ runs.
-        AllZip (λ k run. IsRun level.now k (items_of run.items)) (range_with_len 0 (length level.now / 65536 + 1)) runs.items)) }
+        AllZip (λ piece run. IsRun (part_count len) piece (items_of run.items)) pieces.now runs.items)) }
 {
-    (0..level.len() / RUN + 1)
-        .into_par_iter()
+    pieces
+        .par_iter()
         .with_min_len(1)
         .map(
-            |k: usize| -> Result<Vec<Vec<Entry>>, WantMemory>
-                ensures { IfOk result (λ run. IsRun level.entry.now k (items_of run.items)) }
-            { divide_run(alloc, level, k) },
+            |piece: &Piece<'_>| -> Result<Vec<Vec<Entry>>, WantMemory>
+                ensures { IfOk result (λ run. IsRun (part_count len) piece.now (items_of run.items)) }
+            { divide_piece(alloc, piece, len) },
         )
         .collect(rt, alloc)
 }
 
-// The entries of a run of a level in parts.
-fn divide_run(alloc: Global, level: &[PackedNode], k: usize) -> Result<Vec<Vec<Entry>>, WantMemory>
-    ensures { IfOk result (λ run. IsRun level.now k (items_of run.items)) }
+// The entries of a piece in the parts of a level of so many nodes.
+fn divide_piece(alloc: Global, piece: &Piece<'_>, len: usize) -> Result<Vec<Vec<Entry>>, WantMemory>
+    ensures { IfOk result (λ run. IsRun (part_count len) piece.now (items_of run.items)) }
 {
-    let count = part_count(level.len());
-    let from = run_start(k, level.len());
-    let to = run_end(k, level.len());
-    let mut parts = empty_parts(alloc, count, room(from, to, count))?;
-    for place in from..to {
-        let entry = entry_of(place, &level[place]);
+    let count = part_count(len);
+    let mut parts = empty_parts(alloc, count, room(piece.nodes.len(), count))?;
+    for k in 0..piece.nodes.len() {
+        let entry = entry_of(piece.start + k, &piece.nodes[k]);
         push_to(&mut parts, part_of(entry.key, count), entry)?;
     }
     Ok(parts)
 }
 
-// Where a run of a level begins.
-#[tactic(auto, unfolding(crate::specs::Parts::run_start))]
-fn run_start(k: usize, len: usize) -> usize
-    ensures value { result ≡ run_start k len }
-    ensures inside { result ≤ len }
-{
-    if k <= len / RUN { k * RUN } else { len }
-}
-
-// Where it ends.
-#[tactic(auto, unfolding(crate::specs::Parts::run_start))]
-fn run_end(k: usize, len: usize) -> usize
-    ensures value { result ≡ run_start (k + 1) len }
-    ensures inside { result ≤ len }
-    ensures order { run_start k len ≤ result }
-{
-    if k < len / RUN { (k + 1) * RUN } else { len }
-}
-
-// Room for what each of so many parts has of a run, as long as the keys are spread well.
-fn room(from: usize, to: usize, count: usize) -> usize
+// Room for what each of so many parts has of a piece, as long as the keys are spread well.
+fn room(len: usize, count: usize) -> usize
     requires { 0 < count }
 {
-    let share = to.saturating_sub(from) / count;
+    let share = len / count;
     share.saturating_add(share / 8 + 1)
 }
 

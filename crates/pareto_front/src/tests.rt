@@ -92,6 +92,25 @@ fn keeps_the_uncovered_in_little_room(rt: HostRuntime) -> Result<(), Fail> {
 }
 
 #[test]
+fn keeps_the_uncovered_of_lists(rt: HostRuntime) -> Result<(), Fail> {
+    let first = [PackedNode::of(&made(7, 100000, 5, 0))];
+    let second = [
+        PackedNode::of(&made(7, 100000, 5, 1)),
+        PackedNode::of(&made(10, 40, 4, 2)),
+    ];
+    let lists: [&[PackedNode]; 4] = [&[], &first, &[], &second];
+    let kept = prune_lists(&rt, rt.alloc(), &lists)
+        .ok()
+        .ok_or("want of memory")?;
+    let wanted = [made(7, 100000, 5, 0), made(10, 40, 4, 2)];
+    assert_eq!(rt; kept.len(), wanted.len());
+    for (packed, node) in kept.iter().zip(&wanted) {
+        assert_eq!(rt; packed.node(), *node);
+    }
+    Ok(())
+}
+
+#[test]
 fn finds_the_first_cover(rt: HostRuntime) -> Result<(), Fail> {
     let mut columns = Columns::new(rt.alloc());
     assert!(rt; columns.push(10, 20, 5).is_ok());

@@ -1,6 +1,7 @@
 use Rattle.std.proofs.Common.{◌≤◌, ◌∙◌, List, length, IsOk, ap, subst}
 use Rattle.std.specs.List.{All, flat_map}
 use Rattle.worker_gate.specs.Cut.{cut}
+use Rattle.pareto_front.specs.Covers.{uncovered}
 use Rattle.front_walk.specs.declared.walker.Walker.{Walker}
 use Rattle.front_walk.specs.Asking.{nodes_in}
 use Rattle.front_walk.specs.Nodes.{goes_and_passes, nodes_upto}
@@ -25,13 +26,13 @@ returns-clause-still g c =
     c.expand_ranges.new.crew.workers c.let_go.new.crew.workers (record { as_many = c.expand_ranges.ensures.as_many; each = c.expand_ranges.ensures.found })
     (record { as_many = c.let_go.ensures.as_many; each = c.let_go.ensures.asker })
 
-pub returns-clause-children : goal.returns-clause-children
-returns-clause-children g c =
+pub returns-clause-kept : goal.returns-clause-kept
+returns-clause-kept g c =
     let w = c.args.stage.now.walk.now in
     let test = goes_and_passes w.g.now (g.T.StateTest.passes w.test.now) c.args.stage.now.left in
     let nodes = c.args.stage.now.nodes.now in
     let same = c.workers.ensures.workers in
-    if_ok c.gather-children.result _ _ _ c.gather-children.ensures.nodes c.gather-children.ensures.whole (λ v are whole.
-    are ∙ ap (flat_map (λ (w : Walker _). nodes_in w.found)) same
+    if_ok c.prune_found-kept.result _ _ _ c.prune_found-kept.ensures.kept c.prune_found-kept.ensures.whole (λ v are whole.
+    are ∙ ap uncovered (ap (flat_map (λ (w : Walker _). nodes_in w.found)) same
     ∙ expanded _ _ w.g.now test nodes c.args.crew.now.workers c.expand_ranges.new.crew.workers (subst (λ (l : List (Walker _)). 1 ≤ length l) same c.workers.ensures.low)
-    (record { as_many = c.expand_ranges.ensures.as_many; each = c.expand_ranges.ensures.found }) (subst (λ (l : List (Walker _)). All (λ w. IsOk w.found) l) same whole))
+    (record { as_many = c.expand_ranges.ensures.as_many; each = c.expand_ranges.ensures.found }) (subst (λ (l : List (Walker _)). All (λ w. IsOk w.found) l) same whole)))

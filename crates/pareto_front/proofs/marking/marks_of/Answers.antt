@@ -4,7 +4,7 @@ use Rattle.pareto_front.specs.Lists.{items_of}
 use Rattle.pareto_front.specs.Parts.{AreMarked, AreMarks}
 use Rattle.pareto_front.proofs.Marks.{marks-more, put_back}
 use Rattle.pareto_front.proofs.Vectors.{length-items, vector-at}
-use Rattle.pareto_front.proofs.marks_of.Goals as goal
+use Rattle.pareto_front.proofs.marking.marks_of.Goals as goal
 
 pub loop-places-preserved : goal.loop-places-preserved
 loop-places-preserved c =

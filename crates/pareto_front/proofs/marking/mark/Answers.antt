@@ -2,8 +2,8 @@ use Rattle.std.proofs.Common.{◌+◌, List, Bool, get_or, take, subst, sym, ari
 use Rattle.std.proofs.lemmas.List.{get_or_default}
 use Rattle.pareto_front.specs.Parts.{AreMarked}
 use Rattle.pareto_front.proofs.Marks.{marked-set, marked-skip}
-use Rattle.pareto_front.proofs.mark.Goals as goal
-use Rattle.pareto_front.proofs.mark.Goals.{then-place-marks, else-place-marks}
+use Rattle.pareto_front.proofs.marking.mark.Goals as goal
+use Rattle.pareto_front.proofs.marking.mark.Goals.{then-place-marks, else-place-marks}
 
 pub loop-place-preserved : goal.loop-place-preserved
 loop-place-preserved c =
