@@ -11,7 +11,7 @@ use Rattle.priced_moves.specs.Edges.{combo_edges_of, greatest_edge}
 use Rattle.priced_moves.specs.FirstMoves.{at_need, without_combo}
 use Rattle.priced_moves.specs.Moves.{SeenFields}
 use Rattle.priced_graph.specs.Graphs.{LeadsOn}
-use Rattle.priced_graph.specs.Sights.{SightsFields, IsSeenIn, sights_of, node_count, seen_at}
+use Rattle.priced_graph.specs.Sights.{SightsFields, IsNumber, IsSeenIn, sights_of, node_count, seen_at}
 use Rattle.priced_graph.specs.Ties.{best_cut}
 use Rattle.priced_graph.proofs.Tied.{are-sights, answer-best, combo-best}
 use Rattle.walk_table.specs.Tables.{TableFields}
@@ -24,25 +24,26 @@ use Rattle.priced_bound.proofs.Told.{are-units}
 
 -- ---- without a combo
 
-pub node-within : (r : ReckoningFields) (top : ℕ) (c : SightsFields) (t : TableFields) (node : ℕ) → c ≡ sights_of r.g → IsTableOf r top t → node < node_count c → node < t.graph.nodes
-node-within r top c t node sights table below =
-    let all : node < node_count (sights_of r.g) = subst (λ (d : SightsFields). node < node_count d) sights below in
+pub node-within : (r : ReckoningFields) (top : ℕ) (t : TableFields) (node : ℕ) → IsTableOf r top t → node < node_count (sights_of r.g) → node < t.graph.nodes
+node-within r top t node table below =
     let nodes : t.graph.nodes ≡ node_count (sights_of r.g) = table.graph.nodes in
-    subst (λ (n : ℕ). node < n) (sym nodes) all
+    subst (λ (n : ℕ). node < n) (sym nodes) below
 
-pub plain-best : (r : ReckoningFields) (top : ℕ) (c : SightsFields) (t : TableFields) (budget node : ℕ) (x : SeenFields) (answer : Option ℕ) → AreReckoned r → c ≡ sights_of r.g → IsTableOf r top t →
-    node < node_count c → seen_at c node ≡ at_need (without_combo x) 0 → IsGreatestWorth t.graph t.most budget node x.need answer → answer ≡ table_best r budget (without_combo x)
-plain-best r top c t budget node x answer are sights table below seen worth =
+pub plain-best : (r : ReckoningFields) (top : ℕ) (t : TableFields) (budget node : ℕ) (x : SeenFields) (answer : Option ℕ) → AreReckoned r → IsTableOf r top t → IsNumber (sights_of r.g) x node →
+    IsGreatestWorth t.graph t.most budget node x.need answer → answer ≡ table_best r budget (without_combo x)
+plain-best r top t budget node x answer are table number worth =
     let cut : t.most ≡ MOST_WORTH = table.most in
-    let seen_there : seen_at (sights_of r.g) node ≡ at_need (without_combo x) 0 = ap (λ (d : SightsFields). seen_at d node) (sym sights) ∙ seen in
-    answer-best r.prices r.g r.units t.graph t.most budget node x.need answer are.fair (are-units r.units are.units) table.graph (omega (arith, cut)) (node-within r top c t node sights table below) worth
+    answer-best r.prices r.g r.units t.graph t.most budget node x.need answer are.fair (are-units r.units are.units) table.graph (omega (arith, cut)) (node-within r top t node table number.below) worth
     ∙ ap (λ (m : ℕ). best_cut m r.prices r.g r.units budget (at_need (seen_at (sights_of r.g) node) x.need)) cut
-    ∙ ap (λ (y : SeenFields). table_best r budget (at_need y x.need)) seen_there
+    ∙ ap (λ (y : SeenFields). table_best r budget (at_need y x.need)) number.seen
 
-pub plain-told : (b : BoundFields) (r : ReckoningFields) (top : ℕ) (c : SightsFields) (t : TableFields) (budget node : ℕ) (x y : SeenFields) (answer : Option ℕ) → record { by = r; top = top } ≡ b → y ≡ x → AreReckoned r → c ≡ sights_of r.g →
-    IsTableOf r top t → node < node_count c → seen_at c node ≡ at_need (without_combo x) 0 → IsGreatestWorth t.graph t.most budget node y.need answer → answer ≡ table_best b.by budget (without_combo x)
-plain-told b r top c t budget node x y answer view same are sights table below seen worth =
-    plain-best r top c t budget node x answer are sights table below seen (subst (λ (z : SeenFields). IsGreatestWorth t.graph t.most budget node z.need answer) same worth)
+pub number-told : (b : BoundFields) (r : ReckoningFields) (top node : ℕ) (x : SeenFields) → record { by = r; top = top } ≡ b → IsNumber (sights_of b.by.g) x node → IsNumber (sights_of r.g) x node
+number-told b r top node x view number = subst (λ (h : BoundFields). IsNumber (sights_of h.by.g) x node) (sym view) number
+
+pub plain-told : (b : BoundFields) (r : ReckoningFields) (top : ℕ) (t : TableFields) (budget node : ℕ) (x y : SeenFields) (answer : Option ℕ) → record { by = r; top = top } ≡ b → y ≡ x → AreReckoned r → IsTableOf r top t →
+    IsNumber (sights_of b.by.g) x node → IsGreatestWorth t.graph t.most budget node y.need answer → answer ≡ table_best b.by budget (without_combo x)
+plain-told b r top t budget node x y answer view same are table number worth =
+    plain-best r top t budget node x answer are table (number-told b r top node x view number) (subst (λ (z : SeenFields). IsGreatestWorth t.graph t.most budget node z.need answer) same worth)
     ∙ ap (λ (h : BoundFields). table_best h.by budget (without_combo x)) view
 
 -- ---- with a combo

@@ -10,7 +10,7 @@ use Rattle.priced_moves.specs.Edges.{combo_edges_of, greatest_edge}
 use Rattle.priced_moves.specs.FirstMoves.{at_need, without_combo}
 use Rattle.priced_moves.specs.Moves.{SeenFields}
 use Rattle.priced_moves.proofs.Recursion.{combo-column}
-use Rattle.priced_graph.specs.Sights.{SightsFields, IsSeenIn, sights_of, node_count, number_of, seen_at}
+use Rattle.priced_graph.specs.Sights.{IsNumber, IsSeenIn, sights_of, node_count, number_of, seen_at}
 use Rattle.priced_graph.specs.Graphs.{LeadOn}
 use Rattle.priced_graph.proofs.Closed.{combo-edges-lead_on}
 use Rattle.priced_graph.proofs.Digits.{seen-number}
@@ -49,14 +49,12 @@ listed-edges r combo x lists node d is in_g number below listed =
     ∙ ap (λ (y : SeenFields). combo_edges_of r.prices r.g r.units y) (sight_with x (seen_at (sights_of r.g) node) (ap (λ (n : ℕ). seen_at (sights_of r.g) n) number ∙ seen-number (sights_of r.g) x in_g))
     ∙ combo-column r.prices r.g r.units x 0
 
-pub combo-listed : {A : Type 0} (b : BoundFields) (r : ReckoningFields) (top : ℕ) (c : SightsFields) (combo : Combo) (lists : List (Vec Edge A)) (node : ℕ) (d : Vec Edge A) (x : SeenFields) (edges : List Edge) →
-    record { by = r; top = top } ≡ b → c ≡ sights_of r.g → AreComboLists r combo (node_count (sights_of r.g)) lists → x.combo ≡ combo → IsSeenIn (sights_of b.by.g) x →
-    node ≡ number_of c x → node < node_count c → d ≡ get_or lists node d → edges ≡ d.items → edges ≡ combo_edges_of b.by.prices b.by.g b.by.units x
-combo-listed b r top c combo lists node d x edges view sights listed is in_b number below at same =
-    let in_r : IsSeenIn (sights_of r.g) x = subst (λ (h : BoundFields). IsSeenIn (sights_of h.by.g) x) (sym view) in_b in
-    let number_r : node ≡ number_of (sights_of r.g) x = number ∙ ap (λ (e : SightsFields). number_of e x) sights in
-    let below_r : node < node_count (sights_of r.g) = subst (λ (e : SightsFields). node < node_count e) sights below in
-    same ∙ ap (λ v. v.items) at ∙ listed-edges r combo x lists node d is in_r number_r below_r listed ∙ ap (λ (h : BoundFields). combo_edges_of h.by.prices h.by.g h.by.units x) view
+pub combo-listed : {A : Type 0} (b : BoundFields) (r : ReckoningFields) (top : ℕ) (combo : Combo) (lists : List (Vec Edge A)) (node : ℕ) (d : Vec Edge A) (x : SeenFields) (edges : List Edge) →
+    record { by = r; top = top } ≡ b → AreComboLists r combo (node_count (sights_of r.g)) lists → x.combo ≡ combo → IsNumber (sights_of b.by.g) x node → d ≡ get_or lists node d → edges ≡ d.items →
+    edges ≡ combo_edges_of b.by.prices b.by.g b.by.units x
+combo-listed b r top combo lists node d x edges view listed is number at same =
+    let number_r : IsNumber (sights_of r.g) x node = subst (λ (h : BoundFields). IsNumber (sights_of h.by.g) x node) (sym view) number in
+    same ∙ ap (λ v. v.items) at ∙ listed-edges r combo x lists node d is number_r.within number_r.value number_r.below listed ∙ ap (λ (h : BoundFields). combo_edges_of h.by.prices h.by.g h.by.units x) view
 
 pub combo-leads : (b : BoundFields) (r : ReckoningFields) (top : ℕ) (x : SeenFields) (edges : List Edge) → record { by = r; top = top } ≡ b → AreReckoned r → IsSeenIn (sights_of b.by.g) x →
     edges ≡ combo_edges_of b.by.prices b.by.g b.by.units x → LeadOn (sights_of b.by.g) edges

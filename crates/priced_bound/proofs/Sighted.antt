@@ -1,7 +1,7 @@
 -- Effects that are seen, and that a legal step leads to no others than allowed actions do.
 use Rattle.std.proofs.Common.{ℕ, Bool, true, false, ◌≡◌, ◌≤◌, ◌<◌, ◌+◌, ◌-◌, ◌&&◌, nat_lt, nat_le, min, refl, sym, subst, arith, if◌then◌else◌}
 use Rattle.std.proofs.lemmas.Bool.Decides.{nat_tests}
-use Rattle.plain_lemmas.proofs.Tests.{and_both, and_by, lt_to, bit_small, lt_from}
+use Rattle.plain_lemmas.proofs.Tests.{bit_small}
 use Rattle.action_table.specs.declared.action.Action.{Action}
 use Rattle.action_table.specs.declared.action.Action.TheVariants.{Innovation, Veneration, GreatStrides, MuscleMemory, ByregotsBlessing}
 use Rattle.action_table.specs.Table.{row_of}
@@ -17,34 +17,10 @@ use Rattle.admissible.specs.Laws.{GoesOn}
 use Rattle.admissible.proofs.Potential.{allowed-now}
 use Rattle.relaxed_moves.specs.Places.{bit}
 use Rattle.priced_moves.specs.declared.kinds.Units.{Units}
-use Rattle.priced_moves.specs.Moves.{SeenFields, seen_of}
+use Rattle.priced_moves.specs.Moves.{seen_of}
 use Rattle.priced_laws.proofs.Seeing.{step-effects, after-iq}
-use Rattle.priced_graph.specs.Sights.{SightsFields, IsSeenIn, sights_of}
-use Rattle.priced_bound.specs.Bounds.{is_seen_in}
+use Rattle.priced_graph.specs.Sights.{IsSeenIn, sights_of}
 use Rattle.plain_lemmas.proofs.Numbers.{if_below}
-
--- ---- as a test
-
-pub seen-yes : (c : SightsFields) (x : SeenFields) → IsSeenIn c x → is_seen_in c x ≡ true
-seen-yes c x h =
-    and_by _ _ (lt_to _ _ h.iq) (and_by _ _ (lt_to _ _ h.innovation) (and_by _ _ (lt_to _ _ h.veneration)
-    (and_by _ _ (lt_to _ _ h.strides) (and_by _ _ (lt_to _ _ h.muscle) (lt_to _ _ h.begun)))))
-
-pub seen-by : (c : SightsFields) (x : SeenFields) → is_seen_in c x ≡ true → IsSeenIn c x
-seen-by c x h =
-    let a = and_both (nat_lt x.iq c.iq) _ h in
-    let b = and_both (nat_lt x.innovation c.innovation) _ a.1 in
-    let d = and_both (nat_lt x.veneration c.veneration) _ b.1 in
-    let e = and_both (nat_lt (bit x.strides) c.strides) _ d.1 in
-    let f = and_both (nat_lt (bit x.muscle) c.muscle) (nat_lt (bit x.begun) c.begun) e.1 in
-    record {
-      iq = lt_from _ _ a.0;
-      innovation = lt_from _ _ b.0;
-      veneration = lt_from _ _ d.0;
-      strides = lt_from _ _ e.0;
-      muscle = lt_from _ _ f.0;
-      begun = lt_from _ _ f.1;
-    }
 
 -- ---- the effects after a step
 

@@ -29,9 +29,10 @@ use Rattle.priced_laws.proofs.Limits.{limit-step, limit-last, limit-not_less, wo
 use Rattle.priced_laws.proofs.Reached.{limit-free}
 use Rattle.priced_laws.proofs.Reaching.{AreLimits-both, by-first}
 use Rattle.priced_laws.proofs.Worth.{worth-rest}
-use Rattle.priced_graph.specs.Sights.{sights_of}
+use Rattle.priced_graph.specs.Sights.{IsNumber, is_seen_in, sights_of}
+use Rattle.priced_graph.proofs.Listed.{seen-yes, seen-by}
 use Rattle.priced_graph.specs.Ties.{cut}
-use Rattle.priced_bound.specs.Bounds.{BoundFields, is_seen_in, is_told, has_sight, limit_in, passes, promise_in, promise_of, all_pass, AreTablesOf}
+use Rattle.priced_bound.specs.Bounds.{BoundFields, is_told, has_sight, limit_in, passes, promise_in, promise_of, all_pass, AreTablesOf}
 use Rattle.priced_bound.specs.Places.{IsPlace}
 use Rattle.priced_bound.specs.Reckoned.{ReckoningFields, AreReckoned}
 use Rattle.priced_bound.specs.declared.bound.Place.{Place}
@@ -39,7 +40,7 @@ use Rattle.priced_bound.specs.declared.reckoning.TheConstants.{MOST_LEFT, MOST_P
 use Rattle.priced_bound.specs.Tables.{table_best}
 use Rattle.priced_bound.specs.declared.choices.TheConstants.{MOST_WORTH}
 use Rattle.priced_bound.proofs.Cutting.{capped-cut}
-use Rattle.priced_bound.proofs.Sighted.{seen-yes, seen-by, sight-step}
+use Rattle.priced_bound.proofs.Sighted.{sight-step}
 use Rattle.admissible.proofs.Limits.{capped-most}
 
 pub are-units : (units : Units) → AreSmallUnits units → AreUnits units
@@ -280,19 +281,21 @@ seen-need g units s are =
     (mul-le (g.progress - s.progress) units.share g.progress units.share (omega arith) (omega arith))
 
 pub place-of : (b : BoundFields) (s : StateFields) (left : ℕ) (place : Place) → AreReckoned b.by → place.budget ≡ worth_of b.by.prices s left → place.seen ≡ seen_of b.by.g b.by.units s →
-    s.effects.first ≡ false → left ≤ MOST_LEFT → place.budget ≤ b.top → is_seen_in (sights_of b.by.g) place.seen ≡ true → IsPlace b s left place
-place-of b s left place are budget seen first few paid has = record {
+    s.effects.first ≡ false → left ≤ MOST_LEFT → place.budget ≤ b.top → IsNumber (sights_of b.by.g) place.seen place.node → IsPlace b s left place
+place-of b s left place are budget seen first few paid number = record {
   told = told-by b s left (record {
     first = first;
     left = few;
     worth = omega arith;
-    sight = subst (λ (x : SeenFields). is_seen_in (sights_of b.by.g) x ≡ true) seen has;
+    sight = subst (λ (x : SeenFields). is_seen_in (sights_of b.by.g) x ≡ true) seen (seen-yes (sights_of b.by.g) place.seen number.within);
   });
   budget = budget;
   seen = seen;
-  paid = paid;
-  within = seen-by (sights_of b.by.g) place.seen has;
-  need = subst (λ (x : SeenFields). x.need ≤ progress_units b.by.units b.by.g.progress) (sym seen) (seen-need b.by.g b.by.units s are.units);
+  has = record {
+    paid = paid;
+    number = number;
+    need = subst (λ (x : SeenFields). x.need ≤ progress_units b.by.units b.by.g.progress) (sym seen) (seen-need b.by.g b.by.units s are.units);
+  };
 }
 
 pub promise-told : (b : BoundFields) (s : StateFields) (left : ℕ) → is_told b s left ≡ true →

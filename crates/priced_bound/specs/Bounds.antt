@@ -5,13 +5,12 @@ use Rattle.craft_settings.specs.Ranges.{SettingsFields}
 use Rattle.craft_settings.specs.Rules.{cap_of}
 use Rattle.craft_state.specs.Craft.{StateFields}
 use Rattle.step_rules.specs.Legality.{IsWithin}
-use Rattle.relaxed_moves.specs.Places.{bit}
 use Rattle.prefix_fronts.specs.Prefix.{Test}
-use Rattle.priced_moves.specs.Moves.{SeenFields, seen_of}
+use Rattle.priced_moves.specs.Moves.{seen_of}
 use Rattle.priced_moves.specs.Prices.{worth_of}
 use Rattle.relaxed_moves.specs.Optimum.{is_enough}
 use Rattle.priced_moves.specs.Optimum.{limit_of}
-use Rattle.priced_graph.specs.Sights.{SightsFields, sights_of}
+use Rattle.priced_graph.specs.Sights.{is_seen_in, sights_of}
 use Rattle.priced_bound.specs.Reckoned.{ReckoningFields, AreReckoned}
 use Rattle.priced_bound.specs.declared.reckoning.TheConstants.{MOST_LEFT, MOST_PROMISE}
 use Rattle.priced_bound.specs.Tables.{table_best}
@@ -20,12 +19,6 @@ use Rattle.priced_bound.specs.Tables.{table_best}
 pub record BoundFields : Type 0 where
   pub by : ReckoningFields
   pub top : ℕ
-
--- the effects that are seen are among these
-abbrev pub is_seen_in : SightsFields → SeenFields → Bool
-is_seen_in c x =
-    nat_lt x.iq c.iq && (nat_lt x.innovation c.innovation && (nat_lt x.veneration c.veneration
-    && (nat_lt (bit x.strides) c.strides && (nat_lt (bit x.muscle) c.muscle && nat_lt (bit x.begun) c.begun))))
 
 -- its effects are among those that the craft's allowed actions lead to
 abbrev pub has_sight : ReckoningFields → StateFields → Bool

@@ -1,10 +1,10 @@
 -- The parts of a table.
-use Rattle.std.specs.Prelude.{ℕ, List, Vec, Option, ◌≡◌, ◌<◌, ◌+◌, length, slice_index_or}
+use Rattle.std.specs.Prelude.{ℕ, List, Vec, Option, ◌≡◌, ◌<◌, ◌≤◌, ◌+◌, ◌-◌, length, slice_index_or}
 use Rattle.craft_state.specs.declared.Combo.{Combo}
 use Rattle.craft_state.specs.declared.Combo.TheVariants.{Basic, Standard}
 use Rattle.priced_moves.specs.declared.kinds.Edge.{Edge}
 use Rattle.priced_moves.specs.Edges.{combo_edges_of}
-use Rattle.priced_moves.specs.Moves.{SeenFields}
+use Rattle.priced_moves.specs.Moves.{SeenFields, progress_units}
 use Rattle.priced_graph.specs.Graphs.{IsGraphOf}
 use Rattle.priced_graph.specs.Sights.{SightsFields, sights_of, node_count, seen_at}
 use Rattle.priced_graph.specs.Ties.{best_cut, lead_cut}
@@ -32,11 +32,17 @@ pub record IsTableOf (r : ReckoningFields) (highest : ℕ) (t : TableFields) : T
   pub needs : t.needs ≡ need_of r + 1
   pub most : t.most ≡ MOST_WORTH
 
+-- the units of progress that are left, by the points that are done
+pub record AreNeeds (r : ReckoningFields) (needs : List ℕ) : Type 0 where
+  pub long : length needs ≡ r.g.progress + 1
+  pub at : (points d : ℕ) → points ≤ r.g.progress → slice_index_or needs points d ≡ progress_units r.units (r.g.progress - points)
+
 -- what the parts of a table keep
-pub record IsFilled {A : Type 0} (r : ReckoningFields) (highest : ℕ) (c : SightsFields) (t : TableFields)
+pub record IsFilled {A : Type 0} (r : ReckoningFields) (highest : ℕ) (c : SightsFields) (left : List ℕ) (t : TableFields)
     (basics standards : List (Vec Edge A)) : Type 0 where
   pub reckoned : AreReckoned r
   pub sights : c ≡ sights_of r.g
+  pub needs : AreNeeds r left
   pub table : IsTableOf r highest t
   pub basic : AreComboLists r Basic (node_count (sights_of r.g)) basics
   pub standard : AreComboLists r Standard (node_count (sights_of r.g)) standards

@@ -1,23 +1,27 @@
-ghost use Rattle.std.specs.Prelude.{◌≡◌, ◌≤◌, false, MatchOption, IfOk};
+ghost use Rattle.std.specs.Prelude.{◌≡◌, ◌≤◌, ◌-◌, false, MatchOption, IfOk};
 ghost use Rattle.craft_settings.specs.Rules.{cap_of};
 ghost use Rattle.step_rules.specs.Legality.{IsWithin};
 ghost use Rattle.relaxed_moves.specs.Optimum.{option_max};
 ghost use Rattle.priced_moves.specs.Edges.{greatest_edge};
 ghost use Rattle.priced_moves.specs.FirstMoves.{without_combo};
 ghost use Rattle.priced_graph.specs.Graphs.{LeadsOn, LeadOn};
-ghost use Rattle.priced_graph.specs.Sights.{IsSeenIn, sights_of};
+ghost use Rattle.priced_moves.specs.Moves.{progress_units, seen_of};
+ghost use Rattle.priced_moves.specs.Prices.{worth_of};
+ghost use Rattle.priced_graph.specs.Sights.{IsNumber, IsSeenIn, sights_of};
 ghost use Rattle.priced_bound.specs.Bounds.{is_told, limit_in, passes, promise_in, promise_of};
-ghost use Rattle.priced_bound.specs.Places.{IsPlace};
+ghost use Rattle.priced_bound.specs.Places.{IsInTable, IsPlace};
 ghost use Rattle.priced_bound.specs.Reckoned.{need_of};
 ghost use Rattle.priced_bound.specs.Tables.{table_best, table_lead};
 
 use crate::choices::MOST_WORTH;
-use crate::filling::{combo_lists, cut, greater, has, is_enough, is_first, raised, walks};
+use crate::filling::{
+    coins, combo_lists, cut, greater, is_enough, is_first, needs_of, raised, walks,
+};
 use crate::reckoning::{MOST_LEFT, Reckoning};
 use action_table::WantMemory;
 use craft_state::{Combo, State};
-use priced_graph::Sights;
-use priced_moves::{Edge, Seen, seen, worth};
+use priced_graph::{SightNumbers, Sights};
+use priced_moves::{Edge, Prices, Seen, seen, worth};
 use std::alloc::Global;
 use std::marker::Model;
 use std::thread::Threads;
@@ -29,7 +33,8 @@ use walk_table::WalkTable;
 pub struct PricedBound {
     reckoning: Reckoning,
     top: u32,
-    sights: Sights,
+    numbers: SightNumbers,
+    needs: Vec<u16>,
     table: WalkTable,
     // The edges that Basic Touch, and Standard Touch, add at each sight.
     basic: Vec<Vec<Edge>>,
@@ -45,20 +50,21 @@ impl Model for PricedBound {
 
     ghost view = { λ b. record { by = b.reckoning; top = b.top } };
 
-    ghost invariant = { λ b. IsFilled b.reckoning b.top b.sights b.table b.basic.items b.standard.items };
+    ghost invariant = { λ b. IsFilled b.reckoning b.top b.numbers b.needs.items b.table b.basic.items b.standard.items };
 }
 
 // Where a table tells of a state.
 #[derive(Drop)]
 pub(crate) struct Place {
     pub(crate) budget: u32,
+    pub(crate) node: usize,
     pub(crate) seen: Seen,
 }
 
 impl PricedBound {
     /// The table of a reckoning for budgets up to `top`, filled by so many workers side by side; with none the caller
-    /// fills it alone. It takes the words that `Reckoning::words` tells. The number of workers changes nothing that the
-    /// table tells. Errors: only where memory runs out.
+    /// fills it alone. It takes the words that `Reckoning::words` tells, and two bytes for each point of progress. The
+    /// number of workers changes nothing that the table tells. Errors: only where memory runs out.
     pub fn new(
         rt: &(impl Threads + Sync),
         alloc: Global,
@@ -72,10 +78,13 @@ impl PricedBound {
         let table = walks(rt, alloc, reckoning, top, workers)?;
         let basic = combo_lists(alloc, reckoning, Combo::Basic)?;
         let standard = combo_lists(alloc, reckoning, Combo::Standard)?;
+        let numbers = SightNumbers::new(alloc, &Sights::of(&reckoning.settings))?;
+        let needs = needs_of(alloc, reckoning)?;
         Ok(PricedBound {
             reckoning: *reckoning,
             top,
-            sights: Sights::of(&reckoning.settings),
+            numbers,
+            needs,
             table,
             basic,
             standard,
@@ -86,6 +95,8 @@ impl PricedBound {
     /// moves that its means can pay for complete the craft. All quality that counts where the table doesn't tell of the
     /// state: before the first step, with more than `MOST_LEFT` steps left, with means that are worth more than the
     /// greatest budget, and with effects to which no allowed action leads.
+    // Inlined, so that what several tables ask of a state in turn is computed once.
+    #[inline(always)]
     pub fn limit(&self, s: &State, left: u32) -> Option<u32>
         requires { IsWithin self.now.by.g s.now }
         ensures { result ≡ limit_in self.now s.now left }
@@ -104,7 +115,7 @@ impl PricedBound {
         ensures { result ≡ promise_in self.now s.now left }
     {
         match self.place(s, left) {
-            Some(place) => self.promised(s, place.budget, &place.seen),
+            Some(place) => self.promised(s, &place),
             None => Some(self.cap()),
         }
     }
@@ -117,14 +128,48 @@ impl PricedBound {
         if is_first(s) || left > MOST_LEFT {
             return None;
         }
-        let r = &self.reckoning;
-        let budget = worth(&r.prices, s, left);
-        let seen = seen(&r.settings, &r.units, s);
-        if budget <= self.top && has(&self.sights, &seen) {
-            Some(Place { budget, seen })
-        } else {
-            None
+        let budget = self.budget(s, left);
+        if budget > self.top {
+            return None;
         }
+        let seen = self.seen(s);
+        match self.numbers.find(&seen) {
+            Some(node) => Some(Place { budget, node, seen }),
+            None => None,
+        }
+    }
+
+    // What the means of a state are worth: first in the parts of a coin, so that `coins` cuts them.
+    fn budget(&self, s: &State, left: u32) -> u32
+        requires { left ≤ MOST_LEFT }
+        ensures { result ≡ worth_of self.now.by.prices s.now left }
+    {
+        let r = &self.reckoning;
+        let parts = Prices {
+            coin: 1,
+            ..r.prices
+        };
+        coins(worth(&parts, s, left), r.prices.coin)
+    }
+
+    // What is seen of a state. The need is looked up, which takes less time than to divide for it.
+    fn seen(&self, s: &State) -> Seen
+        requires { IsWithin self.now.by.g s.now }
+        ensures { result ≡ seen_of self.now.by.g self.now.by.units s.now }
+    {
+        let r = &self.reckoning;
+        Seen {
+            need: self.need(s),
+            ..seen(&r.settings, &r.units, s)
+        }
+    }
+
+    // The units of progress that a state leaves to do.
+    fn need(&self, s: &State) -> u32
+        requires { IsWithin self.now.by.g s.now }
+        ensures { result ≡ progress_units self.now.by.units (self.now.by.g.progress - s.now.progress) }
+    {
+        self.needs[s.progress as usize] as u32
     }
 
     /// Whether a state of the craft may still lead to the target with so many steps left: always before the first step,
@@ -145,29 +190,26 @@ impl PricedBound {
         r.settings.cap()
     }
 
-    // The quality of a state after the greatest gain within a budget, cut.
-    fn promised(&self, s: &State, budget: u32, x: &Seen) -> Option<u32>
-        requires budget { budget ≤ self.now.top }
-        requires within { IsSeenIn (sights_of self.now.by.g) x.now }
-        requires need { x.now.need ≤ need_of self.now.by }
-        ensures { result ≡ promise_of self.now.by s.now (table_best self.now.by budget x.now) }
+    // The quality of a state after the greatest gain from a place, cut.
+    fn promised(&self, s: &State, place: &Place) -> Option<u32>
+        requires { IsInTable self.now place.now }
+        ensures { result ≡ promise_of self.now.by s.now (table_best self.now.by place.now.budget place.now.seen) }
     {
         let r = &self.reckoning;
-        match self.gain(budget, x) {
+        match self.gain(place.budget, place.node, &place.seen) {
             Some(gain) => Some(raised(r, s, gain)),
             None => None,
         }
     }
 
     // The greatest gain of all lists of moves within a budget, cut.
-    fn gain(&self, budget: u32, x: &Seen) -> Option<u32>
+    fn gain(&self, budget: u32, node: usize, x: &Seen) -> Option<u32>
         requires budget { budget ≤ self.now.top }
-        requires within { IsSeenIn (sights_of self.now.by.g) x.now }
+        requires number { IsNumber (sights_of self.now.by.g) x.now node }
         requires need { x.now.need ≤ need_of self.now.by }
         ensures { result ≡ table_best self.now.by budget x.now }
     {
-        let node = self.sights.number(x);
-        let plain = self.plain(budget, x);
+        let plain = self.at(budget, node, x);
         match x.combo {
             Combo::NoCombo => plain,
             Combo::Basic => self.greatest(plain, budget, x.need, self.basic[node].as_slice()),
@@ -175,14 +217,23 @@ impl PricedBound {
         }
     }
 
-    // The same without the combo, as the table has it.
+    // The greatest gain without the combo, as the table has it.
     fn plain(&self, budget: u32, x: &Seen) -> Option<u32>
         requires budget { budget ≤ self.now.top }
         requires within { IsSeenIn (sights_of self.now.by.g) x.now }
         requires need { x.now.need ≤ need_of self.now.by }
         ensures { result ≡ table_best self.now.by budget (without_combo x.now) }
     {
-        let node = self.sights.number(x);
+        self.at(budget, self.numbers.number(x), x)
+    }
+
+    // The same by the number of what is seen.
+    fn at(&self, budget: u32, node: usize, x: &Seen) -> Option<u32>
+        requires budget { budget ≤ self.now.top }
+        requires number { IsNumber (sights_of self.now.by.g) x.now node }
+        requires need { x.now.need ≤ need_of self.now.by }
+        ensures { result ≡ table_best self.now.by budget (without_combo x.now) }
+    {
         match self.table.at(budget as usize, node, x.need as usize) {
             Some(gain) => Some(gain as u32),
             None => None,

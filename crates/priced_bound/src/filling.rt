@@ -1,10 +1,9 @@
 // The parts of a table, and what is done with what they tell.
-ghost use Rattle.std.specs.Prelude.{◌≡◌, ◌+◌, ◌*◌, min, IfOk};
+ghost use Rattle.std.specs.Prelude.{◌≡◌, ◌≤◌, ◌+◌, ◌*◌, ◌/◌, min, IfOk};
 ghost use Rattle.craft_settings.specs.Rules.{cap_of};
 ghost use Rattle.relaxed_moves.specs.Optimum.{option_max, is_enough};
 ghost use Rattle.priced_graph.specs.Sights.{sights_of, node_count};
-ghost use Rattle.priced_bound.specs.Bounds.{is_seen_in};
-ghost use Rattle.priced_bound.specs.Tables.{AreComboLists, IsTableOf};
+ghost use Rattle.priced_bound.specs.Tables.{AreComboLists, AreNeeds, IsTableOf};
 
 use crate::choices::MOST_WORTH;
 use crate::reckoning::{MOST_PROMISE, Reckoning};
@@ -35,6 +34,17 @@ pub(crate) fn combo_lists(
         lists.push(edges)?;
     }
     Ok(lists)
+}
+
+// The units of progress that are left, by the points that are done.
+pub(crate) fn needs_of(alloc: Global, r: &Reckoning) -> Result<Vec<u16>, WantMemory>
+    ensures { IfOk result (λ v. AreNeeds r.now v.items) }
+{
+    let mut needs = Vec::new(alloc);
+    for points in 0..r.points() + 1 {
+        needs.push(r.need_after(points) as u16)?;
+    }
+    Ok(needs)
 }
 
 // The table of walks of a reckoning, for budgets up to `top`.
@@ -84,11 +94,19 @@ pub(crate) fn cut(r: &Reckoning, quality: u32) -> u32
     r.settings.cap().min(quality)
 }
 
-// Whether the effects that are seen are among those of the craft.
-pub(crate) fn has(sights: &Sights, x: &Seen) -> bool
-    ensures { result ≡ is_seen_in sights.now x.now }
+// How many whole coins so many parts make. To divide by a number that the compiler knows takes much less time, and the
+// coins of all prices that are chosen for a craft are among these.
+pub(crate) fn coins(parts: u32, coin: u32) -> u32
+    requires { 1 ≤ coin }
+    ensures { result ≡ parts / coin }
 {
-    sights.has(x)
+    match coin {
+        1 => parts,
+        2 => parts / 2,
+        4 => parts / 4,
+        8 => parts / 8,
+        _ => parts / coin,
+    }
 }
 
 // Whether the first step is still to come.

@@ -1,4 +1,4 @@
-ghost use Rattle.std.specs.Prelude.{◌≡◌, ◌≤◌, ◌<◌, ◌+◌, ◌*◌, ◌^◌};
+ghost use Rattle.std.specs.Prelude.{◌≡◌, ◌≤◌, ◌<◌, ◌+◌, ◌-◌, ◌*◌, ◌^◌};
 
 use crate::choices::{Pricing, prices_of, units_of};
 use craft_settings::Settings;
@@ -40,6 +40,7 @@ impl Model for Reckoning {
 
 impl Reckoning {
     ghost use Rattle.priced_graph.specs.Sights.{sights_of, node_count};
+    ghost use Rattle.priced_moves.specs.Moves.{progress_units};
     ghost use Rattle.priced_moves.specs.Prices.{worth_of};
     ghost use Rattle.priced_bound.specs.Choices.{ArePricesOf, AreUnitsOf};
     ghost use Rattle.priced_bound.specs.Reckoned.{AreReckoned, need_of, words_of};
@@ -84,8 +85,25 @@ impl Reckoning {
         ensures value { result ≡ need_of self.now }
         ensures high { result ≤ MOST_NEED }
     {
+        self.need_after(0)
+    }
+
+    // The units of progress that are left after so many points.
+    pub(crate) fn need_after(&self, points: u32) -> u32
+        requires { points ≤ self.now.g.progress }
+        ensures value { result ≡ progress_units self.now.units (self.now.g.progress - points) }
+        ensures high { result ≤ MOST_NEED }
+    {
+        let left = (self.points() - points) as u64 * self.units.share as u64;
+        left.div_ceil(self.units.progress as u64) as u32
+    }
+
+    // The points of progress that the craft takes.
+    pub(crate) fn points(&self) -> u32
+        ensures value { result ≡ self.now.g.progress }
+        ensures high { result ≤ 100000 }
+    {
         let g = &self.settings;
-        let points = g.progress as u64 * self.units.share as u64;
-        points.div_ceil(self.units.progress as u64) as u32
+        g.progress
     }
 }

@@ -1,5 +1,5 @@
 -- Walks in the graph of a craft gain what lists of priced moves do.
-use Rattle.std.proofs.Common.{ℕ, zero, suc, Bool, true, false, List, [], ◌∷◌, Option, Some, None, ◌≡◌, ◌≤◌, ◌<◌, ◌⊎◌, ◌+◌, ◌-◌, ◌&&◌, ◌==◌, nat_le, nat_lt, min, max, refl, ◌∙◌, ap, sym, subst, arith, inl, inr, if◌then◌else◌}
+use Rattle.std.proofs.Common.{ℕ, zero, suc, Bool, true, false, List, [], ◌∷◌, Option, Some, None, ◌≡◌, ◌≤◌, ◌<◌, ◌+◌, ◌-◌, ◌&&◌, ◌==◌, nat_le, nat_lt, min, max, refl, ◌∙◌, ap, sym, subst, arith, inl, inr, if◌then◌else◌}
 use Rattle.std.specs.Option.{option_map}
 use Rattle.std.proofs.lemmas.Bool.Decides.{nat_tests}
 use Rattle.action_table.specs.declared.action.Action.TheVariants.{Innovation, Veneration, GreatStrides, MuscleMemory}

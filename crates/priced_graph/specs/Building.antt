@@ -1,5 +1,5 @@
 -- A graph while its nodes are added.
-use Rattle.std.specs.Prelude.{ℕ, List, [], ◌∷◌, ◌++◌, ◌≡◌, ◌≤◌, ◌<◌, ◌+◌, length}
+use Rattle.std.specs.Prelude.{ℕ, List, [], ◌∷◌, ◌++◌, ◌≡◌, ◌≤◌, ◌<◌, length}
 use Rattle.priced_moves.specs.declared.kinds.Edge as priced
 use Rattle.walk_table.specs.Graph.{GraphFields, edge_at, first_of}
 use Rattle.priced_graph.specs.Sights.{SightsFields}

@@ -1,10 +1,11 @@
 -- What can be seen of the states of a craft, need and combo apart, and its numbers.
-use Rattle.std.specs.Prelude.{ℕ, ◌≡◌, ◌<◌, ◌+◌, ◌*◌, ◌/◌, ◌%◌, ◌==◌, nat_le, if◌then◌else◌}
+use Rattle.std.specs.Prelude.{ℕ, Bool, ◌≡◌, ◌<◌, ◌+◌, ◌*◌, ◌/◌, ◌%◌, ◌==◌, ◌&&◌, nat_lt, nat_le, if◌then◌else◌}
 use Rattle.action_table.specs.declared.action.Action.TheVariants.{Innovation, Veneration, GreatStrides, MuscleMemory}
 use Rattle.craft_state.specs.declared.Combo.TheVariants.{NoCombo}
 use Rattle.craft_settings.specs.Ranges.{SettingsFields, IsFromTo}
 use Rattle.craft_settings.specs.Rules.{is_allowed}
 use Rattle.relaxed_moves.specs.Places.{bit}
+use Rattle.priced_moves.specs.FirstMoves.{at_need, without_combo}
 use Rattle.priced_moves.specs.Moves.{SeenFields}
 
 -- how many values each effect has
@@ -36,6 +37,10 @@ sights_of g = record {
   begun = if g.backload then 2 else 1;
 }
 
+-- the sights of all crafts
+abbrev pub all_sights : SightsFields
+all_sights = record { iq = 11; innovation = 5; veneration = 5; strides = 2; muscle = 2; begun = 2 }
+
 -- the effects that are seen are among these
 pub record IsSeenIn (c : SightsFields) (x : SeenFields) : Type 0 where
   pub iq : x.iq < c.iq
@@ -44,6 +49,12 @@ pub record IsSeenIn (c : SightsFields) (x : SeenFields) : Type 0 where
   pub strides : bit x.strides < c.strides
   pub muscle : bit x.muscle < c.muscle
   pub begun : bit x.begun < c.begun
+
+-- the same as a test
+abbrev pub is_seen_in : SightsFields → SeenFields → Bool
+is_seen_in c x =
+    nat_lt x.iq c.iq && (nat_lt x.innovation c.innovation && (nat_lt x.veneration c.veneration
+    && (nat_lt (bit x.strides) c.strides && (nat_lt (bit x.muscle) c.muscle && nat_lt (bit x.begun) c.begun))))
 
 -- one of the sights: it has no combo and nothing to do
 pub record IsSight (c : SightsFields) (x : SeenFields) : Type 0 where
@@ -73,3 +84,10 @@ seen_at c number = record {
   combo = NoCombo;
   begun = number % c.begun == 1;
 }
+
+-- the number of what is seen, which is among these
+pub record IsNumber (c : SightsFields) (x : SeenFields) (number : ℕ) : Type 0 where
+  pub within : IsSeenIn c x
+  pub value : number ≡ number_of c x
+  pub below : number < node_count c
+  pub seen : seen_at c number ≡ at_need (without_combo x) 0

@@ -6,9 +6,11 @@
 
 mod graph;
 pub mod laws;
+mod numbers;
 mod sights;
 
 pub use graph::graph_of;
+pub use numbers::SightNumbers;
 pub use sights::Sights;
 
 #[cfg(test)]

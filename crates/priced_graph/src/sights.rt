@@ -42,7 +42,7 @@ fn values(on: bool, count: u32) -> u32
 impl Sights {
     ghost use Rattle.priced_moves.specs.FirstMoves.{at_need, without_combo};
     ghost use Rattle.priced_moves.specs.Moves.{SeenFields};
-    ghost use Rattle.priced_graph.specs.Sights.{AreSights, sights_of, node_count, number_of, seen_at, IsSeenIn, IsSight};
+    ghost use Rattle.priced_graph.specs.Sights.{AreSights, all_sights, sights_of, node_count, number_of, seen_at, IsSeenIn, IsSight};
 
     /// The sights of a craft.
     #[tactic(auto, unfolding(crate::specs::Sights::sights_of))]
@@ -56,6 +56,20 @@ impl Sights {
             strides: values(allowed(g, Action::GreatStrides), 2),
             muscle: values(allowed(g, Action::MuscleMemory), 2),
             begun: values(g.backload, 2),
+        }
+    }
+
+    /// The sights of all crafts.
+    pub fn all() -> Sights
+        ensures { result ≡ all_sights }
+    {
+        Sights {
+            iq: 11,
+            innovation: 5,
+            veneration: 5,
+            strides: 2,
+            muscle: 2,
+            begun: 2,
         }
     }
 

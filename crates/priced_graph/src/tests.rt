@@ -1,6 +1,6 @@
 ghost use Rattle.std.specs.Prelude.{◌≡◌, ◌<◌};
 
-use crate::{Sights, graph_of};
+use crate::{SightNumbers, Sights, graph_of};
 use craft_settings::Settings;
 use craft_state::Combo;
 use priced_moves::{Prices, Seen, Units};
@@ -52,6 +52,7 @@ fn counts_the_sights_of_crafts(rt: HostRuntime) -> Result<(), Fail> {
 #[test]
 fn numbers_sights(rt: HostRuntime) -> Result<(), Fail> {
     let sights = Sights::of(&ORDINARY);
+    let numbers = SightNumbers::new(rt.alloc(), &sights)?;
     for (iq, innovation, veneration, strides, number) in [
         (0, 0, 0, true, 1),
         (0, 0, 1, false, 2),
@@ -66,6 +67,7 @@ fn numbers_sights(rt: HostRuntime) -> Result<(), Fail> {
             strides,
             ..SEEN
         };
+        assert_eq!(rt; numbers.find(&x), Some(number));
         if sights.has(&x) {
             assert_eq!(rt; sights.number(&x), number);
         } else {
@@ -77,6 +79,7 @@ fn numbers_sights(rt: HostRuntime) -> Result<(), Fail> {
         ..SEEN
     };
     assert!(rt; !sights.has(&muscle));
+    assert_eq!(rt; numbers.find(&muscle), None);
     Ok(())
 }
 
