@@ -21,7 +21,7 @@ use Rattle.certificate_text.specs.declared.verdict.Verdict.{Verdict}
 use Rattle.certificate_text.specs.declared.verdict.Verdict.TheVariants.{Complete, Limited, Late, Dominated, Kept}
 use Rattle.certificate_text.specs.Text.{IsRow, line_end, parts, best_line}
 use Rattle.certificate_text.proofs.Unique.{row-same}
-use Rattle.certificate_laws.specs.Claims.{Claim, Holds, IsBelow, legal_at, legal_after, RowHolds, is_kept, kept_of, score_at}
+use Rattle.certificate_laws.specs.Claims.{Claim, Holds, is_below, legal_at, legal_after, RowHolds, is_kept, kept_of, score_at}
 use Rattle.certificate_laws.specs.Lines.{opening, naming, heading, judging, Breaks, IsFirstFault}
 use Rattle.certificate_laws.specs.Example.{small_craft, small_best, limited_text, late_text, dominated_text, worse_text, short_text, unended_text}
 use Rattle.certificate_laws.proofs.Reading.{row-long}
@@ -77,12 +77,12 @@ touched-within : IsWithin small_craft touched.state
 touched-within = IsWithin-step small_craft (start_of small_craft) BasicTouch (IsWithin-start small_craft small-settings)
 
 -- so neither limit of the touch is below 100
-not-limited : IsBelow (limit_of small_craft 16 touched.state) 100 → ⊥
+not-limited : is_below (limit_of small_craft 16 touched.state) 100 ≡ true → ⊥
 not-limited below =
     let reaches = limit-run small_craft 16 touched.state done (BasicSynthesis ∷ []) (omega arith) touched-within (first-step small_craft (start_of small_craft) BasicTouch) touch-live then-done done-complete in
     omega (arith, below-clash _ _ _ below reaches, done-counted)
 
-not-late : IsBelow (within_of small_craft 16 touched.state 1) 100 → ⊥
+not-late : is_below (within_of small_craft 16 touched.state 1) 100 ≡ true → ⊥
 not-late below =
     let reaches = within-enough small_craft 16 touched.state done (BasicSynthesis ∷ []) 1 (omega arith) touched-within (first-step small_craft (start_of small_craft) BasicTouch) touch-live then-done done-complete (omega arith) in
     omega (arith, below-clash _ _ _ below reaches, done-counted)

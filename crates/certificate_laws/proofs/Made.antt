@@ -1,12 +1,11 @@
 -- The certificate that is made for the best macro is one.
 use Rattle.std.proofs.Common.{◌≡◌, ◌∙◌, sym, ℕ, suc, ◌+◌, ◌-◌, ◌<◌, ◌≤◌, ◌==◌, ◌&&◌, ◌||◌, Bool, true, false, cond, not, ◌⊎◌, inl, inr, Option, Some, None, List, [], ◌∷◌, ◌++◌, length, length-append, map, get_or, refl, ap, subst, arith, if◌then◌else◌}
 use Rattle.std.specs.List.{filter, flat_map, list_any, position, position_from}
-use Rattle.std.proofs.lemmas.Bool.Decides.{nat_tests}
 use Rattle.std.proofs.lemmas.List.Elements.{filter-append}
 use Rattle.std.proofs.lemmas.List.Quantifiers.{position-Some}
 use Rattle.std.proofs.lemmas.Iterator.Adapters.{position_from-zero}
 use Rattle.std.proofs.lemmas.Option.{slice_get-get_or}
-use Rattle.plain_lemmas.proofs.Tests.{bool_cases, clash, same_answer, some_same, and_both, eq_from, le_from}
+use Rattle.plain_lemmas.proofs.Tests.{bool_cases, clash, same_answer, some_same, and_both, eq_from}
 use Rattle.plain_lemmas.proofs.Lists.{Among, Among-any, any-Among, Among-filter, filter-Among, filter-filter, topmost}
 use Rattle.action_table.specs.declared.action.Action.{Action}
 use Rattle.action_table.specs.Table.{all_actions, action_seconds}
@@ -21,40 +20,31 @@ use Rattle.macro_order.specs.Order.{seconds_of, scored, score_of, is_better, IsB
 use Rattle.prefix_fronts.specs.Prefix.{Prefix, empty_prefix, extend, goes_on, children, dominates, undominated, survivors, next_children}
 use Rattle.prefix_fronts.proofs.Dominance.{dominates-irreflexive, dominates-transitive}
 use Rattle.prefix_fronts.proofs.Members.{IsPrefixAt, seconds_of-snoc, start-open}
-use Rattle.relaxed_moves.specs.Optimum.{option_le, limit_of, within_of}
+use Rattle.relaxed_moves.specs.Optimum.{limit_of, within_of}
 use Rattle.certificate_text.specs.declared.verdict.Verdict.{Verdict}
 use Rattle.certificate_text.specs.declared.verdict.Verdict.TheVariants.{Complete, Failed, Limited, Late}
 use Rattle.certificate_text.specs.Text.{IsText}
 use Rattle.certificate_text.proofs.Same.{text-same}
-use Rattle.certificate_laws.specs.Claims.{Claim, score_at, IsBelow, IsTooLong, Holds, legal_at, legal_after, RowHolds, RowsHold, is_kept, kept_of, next_kept, LevelsHold}
+use Rattle.certificate_laws.specs.Claims.{Claim, score_at, is_below, is_at_most, IsTooLong, Holds, legal_at, legal_after, RowHolds, RowsHold, is_kept, kept_of, next_kept, LevelsHold}
 use Rattle.certificate_laws.specs.Certificate.{IsCertificate}
-use Rattle.certificate_laws.specs.Made.{is_below, is_at_most, is_limited, is_late, may_win, settled, ranked, or_ranked, verdict_of, left_after, row_of, next_level, AreMade, IsMade}
+use Rattle.certificate_laws.specs.Made.{is_limited, is_late, may_win, settled, ranked, or_ranked, verdict_of, left_after, row_of, next_level, AreMade, IsMade}
 use Rattle.certificate_laws.proofs.Rows.{among-legal, next-prefixes}
-
--- what the tests of limits tell
-below-tells : (limit : Option ℕ) (quality : ℕ) → is_below limit quality ≡ true → IsBelow limit quality
-below-tells None quality h = tt
-below-tells (Some limit) quality h = grind (arith, nat_tests)
-
-at_most-tells : (limit : Option ℕ) (quality : ℕ) → is_at_most limit quality ≡ true → option_le limit (Some quality)
-at_most-tells None quality h = tt
-at_most-tells (Some limit) quality h = le_from limit quality h
 
 none-left : (steps long left : ℕ) → left ≡ steps - long → (left == 0) ≡ true → steps ≤ long
 none-left steps long left is h = omega (arith, is, eq_from left 0 h)
 
 late-tells : (claim : Claim) (left : ℕ) (p : Prefix) → left ≡ claim.score.steps - length p.actions → is_late claim left p.state ≡ true →
-    option_le (limit_of claim.g claim.grain p.state) (Some claim.score.quality) × IsTooLong claim p
+    (is_at_most (limit_of claim.g claim.grain p.state) claim.score.quality ≡ true) × IsTooLong claim p
 unfolding is_late
 late-tells claim left p is h =
     let both = and_both _ _ h in
     let within : ℕ → Option ℕ = λ n. within_of claim.g claim.grain p.state n in (
-      at_most-tells (limit_of claim.g claim.grain p.state) claim.score.quality both.0,
+      both.0,
       elim (bool_cases (left == 0)) [
         | inl none ↦ inl (none-left claim.score.steps (length p.actions) left is none)
         | inr some ↦
             let below : is_below (within left) claim.score.quality ≡ true = sym (ap (λ b. b || is_below (within left) claim.score.quality) some) ∙ both.1 in
-            inr (below-tells (within (claim.score.steps - length p.actions)) claim.score.quality (subst (λ (n : ℕ). is_below (within n) claim.score.quality ≡ true) is below))
+            inr (subst (λ (n : ℕ). is_below (within n) claim.score.quality ≡ true) is below)
       ],
     )
 
@@ -117,7 +107,7 @@ verdict-holds claim left next p of run is =
     picked-holds claim next p (is_complete claim.g p.state) (is_over claim.g p.state) (is_below (limit_of claim.g claim.grain p.state) claim.score.quality) (is_late claim left p.state) (position (λ q. dominates q p) next)
     (no-better claim next p of run)
     (λ over not_complete. (dead (is_complete claim.g p.state) p.state.durability over not_complete, not_complete))
-    (λ live below. (live, below-tells (limit_of claim.g claim.grain p.state) claim.score.quality below))
+    (λ live below. (live, below))
     (λ live late. let told = late-tells claim left p is late in (live, told.0, told.1))
     (ranked-holds claim next p (position (λ q. dominates q p) next) refl)
 

@@ -1,5 +1,6 @@
 -- Which macros the claimed one wins over.
 use Rattle.std.proofs.Common.{◌≡◌, sym, ℕ, ◌<◌, ◌≤◌, ◌⊎◌, true, inl, inr, Option, List, [], ◌∷◌, length, Some, None, arith, refl, subst}
+use Rattle.plain_lemmas.proofs.Tests.{lt_from, le_from}
 use Rattle.action_table.specs.declared.action.Action.{Action}
 use Rattle.craft_state.specs.Craft.{StateFields}
 use Rattle.craft_settings.specs.Ranges.{SettingsFields}
@@ -14,7 +15,7 @@ use Rattle.relaxed_moves.specs.Optimum.{option_le}
 use Rattle.prefix_fronts.proofs.Best.{better_quality, better_steps, at_most, no_legal_when_over}
 use Rattle.prefix_fronts.proofs.Replaced.{ends_with}
 use Rattle.admissible.proofs.Reached.{ran}
-use Rattle.certificate_laws.specs.Claims.{Claim, IsBelow}
+use Rattle.certificate_laws.specs.Claims.{Claim, is_below, is_at_most}
 
 -- the claimed macro is this list, or better
 abbrev pub Wins : Claim → List Action → Score → Type 0
@@ -25,13 +26,13 @@ pub no-more : (g : SettingsFields) (s t : StateFields) (r : List Action) → is_
 no-more g s t [] over h = refl
 no-more g s t (a ∷ r) over h = let parts = ran (is_legal g s a) (run_of g (step_of g s a) r) t h in absurd (no_legal_when_over g s a over parts.0)
 
-pub below-clash : (limit : Option ℕ) (least most : ℕ) → IsBelow limit most → option_le (Some least) limit → least < most
+pub below-clash : (limit : Option ℕ) (least most : ℕ) → is_below limit most ≡ true → option_le (Some least) limit → least < most
 below-clash None least most h k = absurd k
-below-clash (Some limit) least most h k = omega (arith, h, k)
+below-clash (Some limit) least most h k = omega (arith, lt_from limit most h, k)
 
-pub at-most : (limit : Option ℕ) (least most : ℕ) → option_le limit (Some most) → option_le (Some least) limit → least ≤ most
+pub at-most : (limit : Option ℕ) (least most : ℕ) → is_at_most limit most ≡ true → option_le (Some least) limit → least ≤ most
 at-most None least most h k = absurd k
-at-most (Some limit) least most h k = omega (arith, h, k)
+at-most (Some limit) least most h k = omega (arith, le_from limit most h, k)
 
 -- more quality
 pub wins-quality : (claim : Claim) (n : List Action) (last : StateFields) → counted claim.g last < claim.score.quality → Wins claim n (ends_with claim.g n last)

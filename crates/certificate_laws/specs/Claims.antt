@@ -1,5 +1,5 @@
 -- What the verdicts of a certificate claim.
-use Rattle.std.specs.Prelude.{ℕ, Bool, true, false, ◌≡◌, ◌⊎◌, ◌-◌, ◌<◌, ◌≤◌, Option, Some, None, if◌then◌else◌}
+use Rattle.std.specs.Prelude.{ℕ, Bool, true, false, ◌≡◌, ◌⊎◌, ◌-◌, ◌<◌, ◌≤◌, nat_lt, nat_le, Option, Some, None, if◌then◌else◌}
 use Rattle.std.specs.Prelude.{List, [], ◌∷◌, ◌++◌, length, filter, slice_get}
 use Rattle.action_table.specs.declared.action.Action.{Action}
 use Rattle.action_table.specs.Table.{all_actions}
@@ -10,7 +10,7 @@ use Rattle.step_rules.specs.Macro.{counted}
 use Rattle.macro_order.specs.declared.scores.Score.{Score}
 use Rattle.macro_order.specs.Order.{is_better}
 use Rattle.prefix_fronts.specs.Prefix.{Prefix, extend, dominates}
-use Rattle.relaxed_moves.specs.Optimum.{option_le, limit_of, within_of}
+use Rattle.relaxed_moves.specs.Optimum.{limit_of, within_of}
 use Rattle.certificate_text.specs.declared.verdict.Verdict.{Verdict}
 use Rattle.certificate_text.specs.declared.verdict.Verdict.TheVariants.{Complete, Failed, Limited, Late, Dominated, Kept}
 
@@ -25,16 +25,21 @@ pub record Claim : Type 0 where
 abbrev pub score_at : SettingsFields → Prefix → Score
 score_at g p = record { quality = counted g p.state; steps = length p.actions; seconds = p.seconds }
 
--- the limit is none, or less than the quality
-abbrev pub IsBelow : Option ℕ → ℕ → Type 0
-IsBelow None quality = Unit {0}
-IsBelow (Some limit) quality = limit < quality
+-- a limit is none, or less than a quality
+abbrev pub is_below : Option ℕ → ℕ → Bool
+is_below None quality = true
+is_below (Some limit) quality = nat_lt limit quality
+
+-- a limit is none, or no more than a quality
+abbrev pub is_at_most : Option ℕ → ℕ → Bool
+is_at_most None quality = true
+is_at_most (Some limit) quality = nat_le limit quality
 
 -- the macro has as many steps or fewer, or its quality can't be reached in the steps that are left of them
 abbrev pub IsTooLong : Claim → Prefix → Type 0
 IsTooLong claim p =
     (claim.score.steps ≤ length p.actions)
-    ⊎ IsBelow (within_of claim.g claim.grain p.state (claim.score.steps - length p.actions)) claim.score.quality
+    ⊎ (is_below (within_of claim.g claim.grain p.state (claim.score.steps - length p.actions)) claim.score.quality ≡ true)
 
 -- what a verdict claims of the prefix that ends with its action, where these are the kept prefixes of the next level
 abbrev pub Holds : Claim → List Prefix → Prefix → Verdict → Type 0
@@ -43,10 +48,10 @@ Holds claim next p Complete =
     × ((claim.actions ≡ p.actions) ⊎ (is_better claim.score claim.actions (score_at claim.g p) p.actions ≡ true))
 Holds claim next p Failed = (p.state.durability ≡ 0) × (is_complete claim.g p.state ≡ false)
 Holds claim next p Limited =
-    (is_over claim.g p.state ≡ false) × IsBelow (limit_of claim.g claim.grain p.state) claim.score.quality
+    (is_over claim.g p.state ≡ false) × (is_below (limit_of claim.g claim.grain p.state) claim.score.quality ≡ true)
 Holds claim next p Late =
     (is_over claim.g p.state ≡ false)
-    × option_le (limit_of claim.g claim.grain p.state) (Some claim.score.quality)
+    × (is_at_most (limit_of claim.g claim.grain p.state) claim.score.quality ≡ true)
     × IsTooLong claim p
 Holds claim next p (Dominated place) =
     (is_over claim.g p.state ≡ false) × ((q : Prefix) × (slice_get next place ≡ Some q) × (dominates q p ≡ true))

@@ -1,5 +1,5 @@
 -- The certificate that is made for the best macro.
-use Rattle.std.specs.Prelude.{ℕ, Bool, true, ◌≡◌, ◌+◌, ◌-◌, ◌<◌, ◌==◌, ◌&&◌, ◌||◌, not, nat_lt, nat_le, if◌then◌else◌}
+use Rattle.std.specs.Prelude.{ℕ, Bool, ◌≡◌, ◌+◌, ◌-◌, ◌<◌, ◌==◌, ◌&&◌, ◌||◌, not, if◌then◌else◌}
 use Rattle.std.specs.Prelude.{Option, Some, None, List, [], ◌∷◌, length, map, position}
 use Rattle.action_table.specs.declared.action.Action.{Action}
 use Rattle.craft_state.specs.Craft.{StateFields}
@@ -12,17 +12,7 @@ use Rattle.relaxed_moves.specs.Optimum.{limit_of, within_of}
 use Rattle.certificate_text.specs.declared.verdict.Verdict.{Verdict}
 use Rattle.certificate_text.specs.declared.verdict.Verdict.TheVariants.{Complete, Failed, Limited, Late, Dominated, Kept}
 use Rattle.certificate_text.specs.Text.{IsText}
-use Rattle.certificate_laws.specs.Claims.{Claim, legal_after}
-
--- a limit is none, or less than a quality
-abbrev pub is_below : Option ℕ → ℕ → Bool
-is_below None quality = true
-is_below (Some limit) quality = nat_lt limit quality
-
--- a limit is none, or no more than a quality
-abbrev pub is_at_most : Option ℕ → ℕ → Bool
-is_at_most None quality = true
-is_at_most (Some limit) quality = nat_le limit quality
+use Rattle.certificate_laws.specs.Claims.{Claim, is_below, is_at_most, legal_after}
 
 -- `q` holds of a live state
 unfoldable pub is_limited : Claim → StateFields → Bool

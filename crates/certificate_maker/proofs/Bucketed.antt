@@ -1,18 +1,17 @@
 -- The first of a bucket that dominates a node is the first of all.
-use Rattle.std.proofs.Common.{◌≡◌, ◌∙◌, sym, ℕ, suc, ◌+◌, ◌<◌, ◌≤◌, ◌==◌, ◌&&◌, ◌||◌, Bool, true, false, cond, nat_lt, inl, inr, Option, Some, None, List, [], ◌∷◌, ◌++◌, append-nil, length, length-take, take, ◌*◌, ◌^◌, ◌%◌, get_or, set, map, Vec, refl, ap, subst, arith, if◌then◌else◌}
+use Rattle.std.proofs.Common.{◌≡◌, ◌∙◌, sym, ℕ, ◌+◌, ◌<◌, ◌≤◌, ◌==◌, Bool, true, false, cond, inl, inr, Option, Some, List, [], ◌∷◌, ◌++◌, append-nil, length, length-take, take, ◌*◌, ◌^◌, ◌%◌, get_or, set, Vec, refl, ap, subst, arith, if◌then◌else◌}
 use Rattle.std.specs.List.{filter, position, position_from}
 use Rattle.std.proofs.lemmas.List.{take_more, get_or-set_same, get_or-set_other, length-set, take_all}
 use Rattle.std.proofs.lemmas.List.Elements.{filter-append}
 use Rattle.std.proofs.lemmas.Iterator.Adapters.{position_from-zero}
-use Rattle.plain_lemmas.proofs.Tests.{bool_cases, clash, and_both, same_or_other, other_number, eq_to}
+use Rattle.plain_lemmas.proofs.Tests.{and_both, same_or_other, other_number, eq_to}
 use Rattle.craft_state.specs.Craft.{StateFields}
 use Rattle.craft_state.specs.Pack.{pack_of}
-use Rattle.craft_state.specs.NotLess.{is_not_less}
 use Rattle.prefix_fronts.proofs.Dominance.{IsNotLess-from}
 use Rattle.pareto_front.specs.declared.node.Node.{Node}
 use Rattle.pareto_front.specs.Keys.{key_of}
 use Rattle.pareto_front.specs.Lists.{items_of}
-use Rattle.pareto_front.proofs.Vectors.{length-items, get_or-empty, items-added}
+use Rattle.pareto_front.proofs.Vectors.{length-items}
 use Rattle.certificate_maker.specs.declared.rivals.Rival.{Rival}
 use Rattle.certificate_maker.specs.Rivals.{outdoes, bucket_of, numbered, rivals_in, AreBuckets, first_over, over_in}
 

@@ -1,7 +1,6 @@
 -- The certificate level by level.
-use Rattle.std.proofs.Common.{◌≡◌, ◌∙◌, sym, ℕ, ◌+◌, ◌-◌, ◌<◌, ◌≤◌, ◌^◌, true, inl, inr, List, [], ◌∷◌, ◌++◌, append_assoc, append-nil, length, map, refl, ap, subst, arith}
+use Rattle.std.proofs.Common.{◌≡◌, ◌∙◌, sym, ℕ, ◌+◌, ◌<◌, ◌^◌, true, List, [], ◌∷◌, ◌++◌, append_assoc, length, map, refl, ap, subst, arith}
 use Rattle.std.proofs.lemmas.List.{length-map}
-use Rattle.plain_lemmas.proofs.Lists.{Among}
 use Rattle.craft_settings.specs.Ranges.{AreSettings}
 use Rattle.step_rules.specs.Legality.{start_of}
 use Rattle.prefix_fronts.specs.Prefix.{Prefix, empty_prefix}
@@ -13,12 +12,11 @@ use Rattle.certificate_text.specs.Text.{line_end, first_line, best_line, level_l
 use Rattle.certificate_laws.specs.Claims.{Claim}
 use Rattle.certificate_laws.specs.Made.{left_after, row_of, next_level, AreMade}
 use Rattle.certificate_laws.proofs.Made.{start-prefix}
-use Rattle.certificate_maker.specs.declared.marks.Mark.{Mark}
 use Rattle.certificate_maker.specs.Marks.{level_marks, next_nodes}
 use Rattle.certificate_maker.specs.Rivals.{AreBuckets}
-use Rattle.certificate_maker.specs.Written.{row_line, ended, level_lines, RowsSmall, LevelsSmall, IsWritten, IsLevelText, marks_text}
+use Rattle.certificate_maker.specs.Written.{row_line, ended, level_lines, LevelsSmall, IsWritten, IsLevelText, marks_text}
 use Rattle.certificate_maker.proofs.Rowed.{level-text, rows-small}
-use Rattle.certificate_maker.proofs.Tying.{Stands, IsNext, looks-long, next-is}
+use Rattle.certificate_maker.proofs.Tying.{Stands, looks-long, next-is}
 
 -- what is made of the levels from one on is written after what is written so far
 pub record Going (claim : Claim) (level : ℕ) (nodes : List Node) (text : List ℕ) : Type 0 where

@@ -1,5 +1,5 @@
 -- What is written of the marks of a level is the rows that are made.
-use Rattle.std.proofs.Common.{◌≡◌, ◌∙◌, sym, ℕ, ◌+◌, ◌<◌, ◌^◌, ◌==◌, ◌&&◌, ◌||◌, not, Bool, true, false, cond, Option, Some, None, List, [], ◌∷◌, ◌++◌, append_assoc, append-nil, length, length-append, map, get_or, refl, ap, subst, arith, if◌then◌else◌}
+use Rattle.std.proofs.Common.{◌≡◌, ◌∙◌, sym, ℕ, ◌+◌, ◌<◌, ◌^◌, ◌==◌, ◌&&◌, ◌||◌, not, Bool, true, false, Option, Some, None, List, [], ◌∷◌, ◌++◌, append_assoc, append-nil, length, length-append, map, get_or, refl, ap, arith, if◌then◌else◌}
 use Rattle.std.specs.List.{cons_option, filter, filter_map, flat_map, enumerate_from, position}
 use Rattle.std.proofs.Math.Seq.{get_or-append_seam}
 use Rattle.std.proofs.lemmas.List.Elements.{filter_map-append}
@@ -24,7 +24,7 @@ use Rattle.certificate_maker.specs.declared.marks.Mark.TheVariants.{Settled, Ope
 use Rattle.certificate_maker.specs.declared.rivals.Rival.{Rival}
 use Rattle.certificate_maker.specs.Marks.{mark_of, child_mark, node_marks, level_marks, opened, next_nodes}
 use Rattle.certificate_maker.specs.Rivals.{AreBuckets, over_in}
-use Rattle.certificate_maker.specs.Written.{word_of, gap, words_from, row_line, ended, IsSmall, AreSmall, RowsSmall, mark_text, ends_row, marks_text}
+use Rattle.certificate_maker.specs.Written.{verdict_word, gap, words_from, row_line, ended, IsSmall, AreSmall, RowsSmall, mark_text, ends_row, marks_text}
 use Rattle.certificate_maker.proofs.Bucketed.{over-first}
 use Rattle.certificate_maker.proofs.Tying.{Stands, first-tied}
 
@@ -81,9 +81,9 @@ next-found claim left nodes next found seen marks left_over are same all =
     left_over ∙ ap uncovered (are ∙ ap (filter_map opened) (same ∙ all) ∙ open-level claim left nodes)
 
 -- the text of one mark
-mark-says : (buckets : List (List Rival)) (first : Bool) (o : Option Verdict) (c : Node) (place : Option ℕ) → over_in buckets c ≡ place → mark_text buckets first (mark_of o c) ≡ gap first ++ word_of (or_ranked o place)
+mark-says : (buckets : List (List Rival)) (first : Bool) (o : Option Verdict) (c : Node) (place : Option ℕ) → over_in buckets c ≡ place → mark_text buckets first (mark_of o c) ≡ gap first ++ verdict_word (or_ranked o place)
 mark-says buckets first (Some verdict) c place over = refl
-mark-says buckets first None c place over = ap (λ (o : Option ℕ). gap first ++ word_of (ranked o)) over
+mark-says buckets first None c place over = ap (λ (o : Option ℕ). gap first ++ verdict_word (ranked o)) over
 
 mark-on : (o : Option Verdict) (c : Node) → ends_row (mark_of o c) ≡ false
 mark-on (Some verdict) c = refl
@@ -92,10 +92,10 @@ mark-on None c = refl
 regroup : (a b c d : List ℕ) → (a ++ b) ++ (c ++ d) ≡ (a ++ (b ++ c)) ++ d
 regroup a b c d = append_assoc a b (c ++ d) ∙ ap (λ (l : List ℕ). a ++ l) (sym (append_assoc b c d)) ∙ sym (append_assoc a (b ++ c) d)
 
-text-step : (buckets : List (List Rival)) (first b : Bool) (m : Mark) (marks : List Mark) (e : Action → Verdict) (a : Action) (actions : List Action) (tail : List ℕ) → mark_text buckets first m ≡ gap first ++ word_of (e a) → ends_row m ≡ false →
+text-step : (buckets : List (List Rival)) (first b : Bool) (m : Mark) (marks : List Mark) (e : Action → Verdict) (a : Action) (actions : List Action) (tail : List ℕ) → mark_text buckets first m ≡ gap first ++ verdict_word (e a) → ends_row m ≡ false →
     ((f : Bool) → marks_text buckets f marks ≡ words_from f (map e actions) ++ tail) → marks_text buckets first (if b then m ∷ marks else marks) ≡ words_from first (map e (if b then a ∷ actions else actions)) ++ tail
 text-step buckets first true m marks e a actions tail says on rest =
-    (λ j. says j ++ marks_text buckets (on j) marks) ∙ ap (λ (l : List ℕ). (gap first ++ word_of (e a)) ++ l) (rest false) ∙ regroup (gap first) (word_of (e a)) (words_from false (map e actions)) tail
+    (λ j. says j ++ marks_text buckets (on j) marks) ∙ ap (λ (l : List ℕ). (gap first ++ verdict_word (e a)) ++ l) (rest false) ∙ regroup (gap first) (verdict_word (e a)) (words_from false (map e actions)) tail
 text-step buckets first false m marks e a actions tail says on rest = rest first
 
 cons-marks : (b : Bool) (m : Mark) (marks ends later : List Mark) → (cons_option (if b then Some m else None) marks ++ ends) ++ later ≡ (if b then m ∷ ((marks ++ ends) ++ later) else ((marks ++ ends) ++ later))
@@ -125,8 +125,8 @@ row-text claim level nodes kept buckets place n p later at are (a ∷ actions) f
     let tail : List ℕ = line_end ∷ marks_text buckets true later in
     let m : Mark = mark_of (settled claim left (step_of g n.state a)) c in
     let found : over_in buckets c ≡ over = over-first (next_nodes claim left nodes) buckets c are ∙ first-tied claim level nodes kept place n p a at.stands at.inside at.at at.state at.seconds in
-    let says : mark_text buckets first m ≡ gap first ++ word_of (e a) =
-    mark-says buckets first (settled claim left (step_of g n.state a)) c over found ∙ ap (λ (s : StateFields). gap first ++ word_of (or_ranked (settled claim left (step_of g s a)) over)) at.state in
+    let says : mark_text buckets first m ≡ gap first ++ verdict_word (e a) =
+    mark-says buckets first (settled claim left (step_of g n.state a)) c over found ∙ ap (λ (s : StateFields). gap first ++ verdict_word (or_ranked (settled claim left (step_of g s a)) over)) at.state in
     ap (marks_text buckets first) (cons-marks legal m (filter_map (child_mark claim left place n) actions) (RowEnd ∷ []) later)
     ∙ text-step buckets first legal m ((filter_map (child_mark claim left place n) actions ++ RowEnd ∷ []) ++ later) e a (filter (is_legal g p.state) actions) tail says (mark-on (settled claim left (step_of g n.state a)) c)
     (row-text claim level nodes kept buckets place n p later at are actions)

@@ -1,26 +1,24 @@
 -- The lines that are written are the text of a certificate.
-use Rattle.std.proofs.Common.{◌≡◌, ◌∙◌, sym, ℕ, ◌+◌, ◌<◌, ◌≤◌, ◌^◌, ◌%◌, ◌/◌, ◌==◌, ◌&&◌, ◌||◌, nat_lt, not, Bool, true, false, inl, inr, List, [], ◌∷◌, ◌++◌, append_assoc, append-nil, length, map, get_or, refl, ap, subst, arith, codes, if◌then◌else◌}
+use Rattle.std.proofs.Common.{◌≡◌, ◌∙◌, sym, ℕ, ◌+◌, ◌<◌, ◌≤◌, ◌^◌, ◌%◌, ◌==◌, ◌&&◌, ◌||◌, nat_lt, not, Bool, true, false, inl, inr, List, [], ◌∷◌, ◌++◌, append_assoc, append-nil, length, map, get_or, refl, ap, subst, arith, codes}
 use Rattle.std.specs.List.{list_all, flat_map}
 use Rattle.std.specs.Char.{is_ascii_digit}
-use Rattle.std.specs.Fmt.{digits, decimal}
-use Rattle.std.specs.Str.Parse.{digits_value}
+use Rattle.std.specs.Fmt.{decimal}
 use Rattle.std.proofs.lemmas.Bool.Decides.{nat_tests}
 use Rattle.std.proofs.lemmas.Fmt.{decimal_by_steps, decimal_is_IsNumeral, decimal_nonempty, decimal_digit, first_decimal}
 use Rattle.std.proofs.lemmas.List.Folds.{list_all-append}
-use Rattle.plain_lemmas.proofs.Tests.{and_by, lt_to, eq_to, ways, other_number}
+use Rattle.plain_lemmas.proofs.Tests.{and_by, lt_to, ways, other_number}
 use Rattle.action_table.specs.declared.action.Action.{Action}
 use Rattle.action_table.specs.Table.{number_of}
 use Rattle.action_table.proofs.Names.{number_below}
-use Rattle.prefix_fronts.specs.Prefix.{empty_prefix}
 use Rattle.certificate_text.specs.declared.verdict.Verdict.{Verdict}
 use Rattle.certificate_text.specs.declared.verdict.Verdict.TheVariants.{Complete, Failed, Limited, Late, Dominated, Kept}
-use Rattle.certificate_text.specs.Text.{line_end, space, parts, is_number, IsNumber, first_line, best_line, level_line, Says, AllSay, IsRow, AreRows, AreLevels, IsText}
+use Rattle.certificate_text.specs.Text.{line_end, space, parts, IsNumber, first_line, best_line, level_line, Says, AllSay, IsRow, AreRows, AreLevels}
 use Rattle.certificate_text.proofs.Printed.{parts-word, parts-last}
 use Rattle.certificate_laws.specs.Claims.{Claim}
 use Rattle.certificate_laws.specs.Made.{IsMade}
 use Rattle.macro_order.specs.Order.{score_of}
 use Rattle.std.specs.Prelude.{Some}
-use Rattle.certificate_maker.specs.Written.{word_of, gap, words_from, row_line, ended, level_lines, IsSmall, AreSmall, RowsSmall, LevelsSmall, IsWritten}
+use Rattle.certificate_maker.specs.Written.{verdict_word, words_from, row_line, ended, level_lines, IsSmall, AreSmall, RowsSmall, LevelsSmall, IsWritten}
 
 -- no byte is the mark
 abbrev has_no : ℕ → List ℕ → Bool
@@ -63,7 +61,7 @@ decimal-number n small = record {
 }
 
 -- the word of a verdict says it
-word-says : (v : Verdict) → IsSmall v → Says v (word_of v)
+word-says : (v : Verdict) → IsSmall v → Says v (verdict_word v)
 word-says Complete small = refl
 word-says Failed small = refl
 word-says Limited small = refl
@@ -71,7 +69,7 @@ word-says Late small = refl
 word-says (Dominated place) small = (decimal place, refl, decimal-number place small)
 word-says Kept small = refl
 
-word-no : (mark : ℕ) (v : Verdict) → mark < 48 → IsSmall v → has_no mark (word_of v) ≡ true
+word-no : (mark : ℕ) (v : Verdict) → mark < 48 → IsSmall v → has_no mark (verdict_word v) ≡ true
 word-no mark Complete low small = rw (other_number 99 mark (λ same. omega (arith, same, low))) refl
 word-no mark Failed low small = rw (other_number 102 mark (λ same. omega (arith, same, low))) refl
 word-no mark Limited low small = rw (other_number 113 mark (λ same. omega (arith, same, low))) refl
@@ -81,13 +79,13 @@ word-no mark (Dominated place) low small =
 word-no mark Kept low small = rw (other_number 107 mark (λ same. omega (arith, same, low))) refl
 
 -- a word and those after it, cut at the spaces
-cut-words : (v : Verdict) (vs : List Verdict) → IsSmall v → AreSmall vs → parts space (word_of v ++ words_from false vs) ≡ word_of v ∷ map word_of vs
-cut-words v [] small smalls = ap (parts space) (append-nil (word_of v)) ∙ parts-last space (word_of v) (word-no space v (omega arith) small)
+cut-words : (v : Verdict) (vs : List Verdict) → IsSmall v → AreSmall vs → parts space (verdict_word v ++ words_from false vs) ≡ verdict_word v ∷ map verdict_word vs
+cut-words v [] small smalls = ap (parts space) (append-nil (verdict_word v)) ∙ parts-last space (verdict_word v) (word-no space v (omega arith) small)
 cut-words v (w ∷ vs) small smalls =
-    parts-word space (word_of v) (word_of w ++ words_from false vs) (word-no space v (omega arith) small)
-    ∙ ap (λ (l : List (List ℕ)). word_of v ∷ l) (cut-words w vs smalls.0 smalls.1)
+    parts-word space (verdict_word v) (verdict_word w ++ words_from false vs) (word-no space v (omega arith) small)
+    ∙ ap (λ (l : List (List ℕ)). verdict_word v ∷ l) (cut-words w vs smalls.0 smalls.1)
 
-all-say : (vs : List Verdict) → AreSmall vs → AllSay vs (map word_of vs)
+all-say : (vs : List Verdict) → AreSmall vs → AllSay vs (map verdict_word vs)
 all-say [] small = tt
 all-say (v ∷ vs) small = (word-says v small.0, all-say vs small.1)
 
@@ -124,8 +122,8 @@ whole-append (x ∷ xs) ys h k = (h.0, whole-append xs ys h.1 k)
 
 words-whole : (first : Bool) (vs : List Verdict) → AreSmall vs → has_no line_end (words_from first vs) ≡ true
 words-whole first [] small = refl
-words-whole true (v ∷ vs) small = all-append (λ byte. not (byte == line_end)) (word_of v) (words_from false vs) (word-no line_end v (omega arith) small.0) (words-whole false vs small.1)
-words-whole false (v ∷ vs) small = all-append (λ byte. not (byte == line_end)) (word_of v) (words_from false vs) (word-no line_end v (omega arith) small.0) (words-whole false vs small.1)
+words-whole true (v ∷ vs) small = all-append (λ byte. not (byte == line_end)) (verdict_word v) (words_from false vs) (word-no line_end v (omega arith) small.0) (words-whole false vs small.1)
+words-whole false (v ∷ vs) small = all-append (λ byte. not (byte == line_end)) (verdict_word v) (words_from false vs) (word-no line_end v (omega arith) small.0) (words-whole false vs small.1)
 
 rows-whole : (rows : List (List Verdict)) → RowsSmall rows → AreWhole (map row_line rows)
 rows-whole [] small = tt

@@ -1,15 +1,14 @@
 -- The nodes of a level stand for its kept prefixes, and so do those of the next.
-use Rattle.std.proofs.Common.{◌≡◌, ◌∙◌, sym, ℕ, zero, suc, ◌+◌, ◌-◌, ◌*◌, ◌<◌, ◌≤◌, ◌^◌, ◌==◌, ◌&&◌, ◌||◌, nat_lt, Bool, true, false, cond, inl, inr, Option, Some, None, List, [], ◌∷◌, ◌++◌, append_assoc, length, length-append, map, get_or, refl, ap, subst, arith, if◌then◌else◌}
-use Rattle.std.specs.List.{All, filter, filter_map, flat_map, enumerate_from, position, position_from}
+use Rattle.std.proofs.Common.{◌≡◌, ◌∙◌, sym, ℕ, zero, suc, ◌+◌, ◌<◌, ◌≤◌, ◌==◌, ◌&&◌, ◌||◌, nat_lt, Bool, true, false, cond, inl, inr, Some, List, [], ◌∷◌, ◌++◌, length, map, get_or, refl, ap, subst, arith}
+use Rattle.std.specs.List.{All, filter, flat_map, position, position_from}
 use Rattle.std.proofs.lemmas.Iterator.Adapters.{position_from-zero}
-use Rattle.std.proofs.lemmas.List.Quantifiers.{position-Some}
 use Rattle.std.proofs.lemmas.Bool.Decides.{nat_tests}
 use Rattle.plain_lemmas.proofs.Tests.{bool_cases, clash, ways, lt_to}
 use Rattle.plain_lemmas.proofs.Numbers.{one_more}
 use Rattle.plain_lemmas.proofs.Lists.{Among, filter-Among, flat_map-Among}
 use Rattle.plain_lemmas.proofs.Places.{Among-get_or, Among-All}
 use Rattle.action_table.specs.declared.action.Action.{Action}
-use Rattle.action_table.specs.Table.{number_of, all_actions, action_seconds}
+use Rattle.action_table.specs.Table.{number_of, action_seconds}
 use Rattle.craft_state.specs.Craft.{StateFields}
 use Rattle.craft_state.specs.NotLess.{is_not_less}
 use Rattle.craft_settings.specs.Ranges.{SettingsFields, AreSettings}

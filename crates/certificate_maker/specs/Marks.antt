@@ -1,13 +1,14 @@
 -- What is known of the children of a level before the next level is.
-use Rattle.std.specs.Prelude.{ℕ, Option, Some, None, List, [], ◌∷◌, ◌++◌, ◌≡◌, ◌≤◌, take, if◌then◌else◌}
+use Rattle.std.specs.Prelude.{ℕ, false, Option, Some, None, List, [], ◌∷◌, ◌++◌, ◌≡◌, ◌≤◌, take, if◌then◌else◌}
 use Rattle.std.specs.List.{filter_map, flat_map, enumerate_from}
 use Rattle.action_table.specs.declared.action.Action.{Action}
 use Rattle.action_table.specs.Table.{all_actions}
 use Rattle.craft_state.specs.Craft.{StateFields}
 use Rattle.craft_settings.specs.Ranges.{SettingsFields}
-use Rattle.step_rules.specs.Legality.{is_legal, IsWithin}
+use Rattle.step_rules.specs.Legality.{is_complete, is_legal, is_over, IsWithin}
 use Rattle.step_rules.specs.Step.{step_of}
 use Rattle.relaxed_moves.specs.Budget.{potential_of, start_potential_of}
+use Rattle.relaxed_moves.specs.Optimum.{limit_of}
 use Rattle.pareto_front.specs.declared.node.Node.{Node}
 use Rattle.pareto_front.specs.Covers.{uncovered}
 use Rattle.front_walk.specs.Nodes.{child_node, nodes_by, goes_and_passes}
@@ -22,6 +23,12 @@ pub record MayGoOn (g : SettingsFields) (n : Node) : Type 0 where
   pub within : IsWithin g n.state
   pub potential : potential_of g n.state ≤ start_potential_of g
   pub short : n.seconds ≤ 1000
+
+-- the state is live, and this is its limit
+pub record IsAsked (claim : Claim) (s : StateFields) (limit : Option ℕ) : Type 0 where
+  pub undone : is_complete claim.g s ≡ false
+  pub live : is_over claim.g s ≡ false
+  pub is : limit ≡ limit_of claim.g claim.grain s
 
 -- the verdict, or what may win
 abbrev pub mark_of : Option Verdict → Node → Mark

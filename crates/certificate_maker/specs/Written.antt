@@ -1,6 +1,5 @@
 -- The bytes of a certificate, line by line.
 use Rattle.std.specs.Prelude.{ℕ, Bool, true, false, List, [], ◌∷◌, ◌++◌, ◌≡◌, ◌+◌, ◌<◌, ◌^◌, length, map, codes, if◌then◌else◌}
-use Rattle.std.specs.List.{flat_map}
 use Rattle.std.specs.Fmt.{decimal}
 use Rattle.prefix_fronts.specs.Prefix.{empty_prefix}
 use Rattle.certificate_text.specs.declared.verdict.Verdict.{Verdict}
@@ -15,13 +14,13 @@ use Rattle.pareto_front.specs.declared.node.Node.{Node}
 use Rattle.certificate_maker.specs.Rivals.{AreBuckets, over_in}
 
 -- the word of a verdict
-abbrev pub word_of : Verdict → List ℕ
-word_of Complete = codes "c"
-word_of Failed = codes "f"
-word_of Limited = codes "q"
-word_of Late = codes "s"
-word_of (Dominated place) = codes "d" ++ decimal place
-word_of Kept = codes "k"
+abbrev pub verdict_word : Verdict → List ℕ
+verdict_word Complete = codes "c"
+verdict_word Failed = codes "f"
+verdict_word Limited = codes "q"
+verdict_word Late = codes "s"
+verdict_word (Dominated place) = codes "d" ++ decimal place
+verdict_word Kept = codes "k"
 
 -- a space, but before the first word of a row
 abbrev pub gap : Bool → List ℕ
@@ -30,7 +29,7 @@ gap first = if first then [] else space ∷ []
 -- words, of which the first is the first of a row or not
 abbrev pub words_from : Bool → List Verdict → List ℕ
 words_from first [] = []
-words_from first (verdict ∷ verdicts) = gap first ++ (word_of verdict ++ words_from false verdicts)
+words_from first (verdict ∷ verdicts) = gap first ++ (verdict_word verdict ++ words_from false verdicts)
 
 abbrev pub row_line : List Verdict → List ℕ
 row_line verdicts = words_from true verdicts
@@ -74,8 +73,8 @@ pub record IsWritten (claim : Claim) (bytes : List ℕ) : Type 0 where
 -- the text of one mark, with the buckets of the next level
 abbrev pub mark_text : List (List Rival) → Bool → Mark → List ℕ
 mark_text buckets first RowEnd = line_end ∷ []
-mark_text buckets first (Settled verdict) = gap first ++ word_of verdict
-mark_text buckets first (Open child) = gap first ++ word_of (ranked (over_in buckets child))
+mark_text buckets first (Settled verdict) = gap first ++ verdict_word verdict
+mark_text buckets first (Open child) = gap first ++ verdict_word (ranked (over_in buckets child))
 
 abbrev pub ends_row : Mark → Bool
 ends_row RowEnd = true

@@ -3,7 +3,7 @@ ghost use Rattle.std.specs.Prelude.{◌≡◌, ◌<◌, ◌^◌, IfOk, All, leng
 ghost use Rattle.craft_settings.specs.Ranges.{AreSettings};
 ghost use Rattle.step_rules.specs.Legality.{start_of};
 ghost use Rattle.front_walk.specs.Nodes.{root_node};
-ghost use Rattle.front_check.specs.Judging.{bounds_of, claim_of, IsClaimed};
+ghost use Rattle.front_check.specs.Judging.{bounds_of, claim_of};
 ghost use Rattle.certificate_maker.specs.Marks.{MayGoOn, level_marks, next_nodes};
 ghost use Rattle.certificate_maker.specs.Written.{IsWritten, IsLevelText};
 

@@ -1,5 +1,5 @@
 // What is known of the children of a level before the next level is.
-ghost use Rattle.std.specs.Prelude.{◌≡◌, ◌++◌, ◌<◌, IfOk, OnOk, All, length, slice_index_or, filter_map};
+ghost use Rattle.std.specs.Prelude.{◌≡◌, ◌++◌, ◌<◌, IfOk, OnOk, All, filter_map};
 ghost use Rattle.front_check.specs.Judging.{bounds_of, claim_of};
 ghost use Rattle.certificate_maker.specs.Marks.{MayGoOn, child_mark, node_marks, level_marks, opened};
 

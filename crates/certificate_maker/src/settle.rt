@@ -2,7 +2,9 @@
 ghost use Rattle.std.specs.Prelude.{◌≡◌, ◌==◌, ◌||◌};
 ghost use Rattle.relaxed_moves.specs.Optimum.{within_of};
 ghost use Rattle.front_check.specs.Judging.{bounds_of, claim_of, MayAsk};
-ghost use Rattle.certificate_laws.specs.Made.{settled, is_below};
+ghost use Rattle.certificate_laws.specs.Claims.{is_below};
+ghost use Rattle.certificate_laws.specs.Made.{settled};
+ghost use Rattle.certificate_maker.specs.Marks.{IsAsked};
 
 use crate::stage::Stage;
 use certificate_text::Verdict;
@@ -25,6 +27,23 @@ pub(crate) fn settle<L: Limits>(limits: &mut L, stage: &Stage<'_, '_>, s: &State
         return Some(Verdict::Failed);
     }
     let limit = limits.limit(s);
+    settle_live(limits, stage, s, limit)
+}
+
+// The same, of a live state whose limit this is.
+fn settle_live<L: Limits>(
+    limits: &mut L,
+    stage: &Stage<'_, '_>,
+    s: &State,
+    limit: Option<u32>,
+) -> Option<Verdict>
+    requires bounds { L.bounds limits.old ≡ bounds_of stage.now.claimed.now }
+    requires ask { MayAsk (bounds_of stage.now.claimed.now) s.now }
+    requires asked { IsAsked (claim_of stage.now.claimed.now) s.now limit }
+    ensures verdict { result ≡ settled (claim_of stage.now.claimed.now) stage.now.left s.now }
+    ensures still { L.bounds limits.new ≡ L.bounds limits.old }
+{
+    let claimed = stage.claimed;
     if is_below(limit, claimed.score.quality) {
         return Some(Verdict::Limited);
     }

@@ -2,7 +2,7 @@
 ghost use Rattle.std.specs.Prelude.{◌≡◌, ◌<◌, ◌++◌, ◌∷◌, [], true, IfOk, OnOk, length, string_bytes};
 ghost use Rattle.pareto_front.specs.Lists.{items_of};
 ghost use Rattle.certificate_text.specs.Text.{first_line, best_line, level_line};
-ghost use Rattle.certificate_maker.specs.Written.{word_of, gap, ended, ends_row, mark_text, marks_text};
+ghost use Rattle.certificate_maker.specs.Written.{verdict_word, gap, ended, ends_row, mark_text, marks_text};
 
 use crate::marks::Mark;
 use crate::rivals::{Rival, first_over};
@@ -97,7 +97,7 @@ fn push_gap(text: &mut String, first: bool) -> Result<(), AllocError>
 
 // Appends the word of a verdict.
 fn push_word(text: &mut String, verdict: Verdict) -> Result<(), AllocError>
-    ensures { OnOk result (string_bytes text.new ≡ string_bytes text.old ++ word_of verdict) }
+    ensures { OnOk result (string_bytes text.new ≡ string_bytes text.old ++ verdict_word verdict) }
 {
     match verdict {
         Verdict::Complete => text.push_str("c"),

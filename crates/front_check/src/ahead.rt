@@ -1,5 +1,5 @@
 // The prefixes that the rows of a level keep.
-ghost use Rattle.std.specs.Prelude.{◌≡◌, ◌≤◌, ◌++◌, IfOk, OnOk, All, IsTrue, length};
+ghost use Rattle.std.specs.Prelude.{◌≡◌, ◌++◌, IfOk, OnOk, All, IsTrue, length};
 ghost use Rattle.step_rules.specs.Legality.{is_legal};
 ghost use Rattle.certificate_text.specs.Text.{line_end, parts};
 ghost use Rattle.certificate_laws.specs.Claims.{kept_of};

@@ -2,8 +2,8 @@
 ghost use Rattle.std.specs.Prelude.{◌≡◌, ◌-◌, ◌≤◌, ◌↔◌, true, false, IsTrue, All, length, slice_get};
 ghost use Rattle.craft_state.specs.NotLess.{is_not_less};
 ghost use Rattle.prefix_fronts.specs.Prefix.{Prefix, dominates};
-ghost use Rattle.relaxed_moves.specs.Optimum.{option_le, limit_of, within_of};
-ghost use Rattle.certificate_laws.specs.Claims.{score_at, IsBelow, IsTooLong, Holds};
+ghost use Rattle.relaxed_moves.specs.Optimum.{limit_of, within_of};
+ghost use Rattle.certificate_laws.specs.Claims.{score_at, is_below, is_at_most, IsTooLong, Holds};
 ghost use Rattle.front_check.specs.Judging.{bounds_of, claim_of, IsBegun, IsClaimed};
 ghost use Rattle.step_rules.specs.Legality.{is_complete, is_over};
 
@@ -96,7 +96,7 @@ pub(crate) fn is_dominated(claimed: &Claimed<'_>, next: &[Kept], p: &Kept, place
 
 /// Whether a limit is none, or less than a quality.
 pub fn is_below(limit: Option<u32>, quality: u32) -> bool
-    ensures { IsTrue result ↔ IsBelow limit quality }
+    ensures { result ≡ is_below limit quality }
 {
     match limit {
         None => true,
@@ -106,7 +106,7 @@ pub fn is_below(limit: Option<u32>, quality: u32) -> bool
 
 /// Whether a limit is none, or at most a quality.
 pub fn is_at_most(limit: Option<u32>, quality: u32) -> bool
-    ensures { IsTrue result ↔ option_le limit (Some quality) }
+    ensures { result ≡ is_at_most limit quality }
 {
     match limit {
         None => true,

@@ -6,7 +6,7 @@ use std::alloc::Global;
 
 /// The two limits of the states of a craft, at a grain.
 pub trait Limits: Drop {
-    ghost use Rattle.std.specs.Prelude.{◌≡◌, ◌≤◌, ℕ, IfOk};
+    ghost use Rattle.std.specs.Prelude.{◌≡◌, ◌≤◌, IfOk};
     ghost use Rattle.craft_settings.specs.Ranges.{AreSettings};
     ghost use Rattle.relaxed_moves.specs.Optimum.{limit_of, within_of};
     ghost use Rattle.front_check.specs.Judging.{Bounds, MayAsk};

@@ -1,5 +1,5 @@
 // Lines 1 and 2.
-ghost use Rattle.std.specs.Prelude.{◌≡◌, ◌≤◌, ◌↔◌, IsTrue, ◌++◌, ◌==◌, not, length, ℕ, List, IfOk, OnOk, MatchOption, string_bytes};
+ghost use Rattle.std.specs.Prelude.{◌≡◌, ◌≤◌, ◌↔◌, IsTrue, ◌++◌, ◌==◌, not, length, ℕ, IfOk, OnOk, MatchOption, string_bytes};
 ghost use Rattle.action_table.specs.declared.action.Action.{Action as ActionFields};
 ghost use Rattle.craft_settings.specs.Ranges.{IsFromTo};
 ghost use Rattle.certificate_text.specs.Text.{space, first_line, best_line};

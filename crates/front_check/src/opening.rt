@@ -1,6 +1,5 @@
 // The first two lines.
 ghost use Rattle.std.specs.Prelude.{◌≤◌, IfOk, length};
-ghost use Rattle.craft_settings.specs.Ranges.{AreSettings};
 ghost use Rattle.front_check.specs.Levels.{IsOpening};
 ghost use Rattle.front_check.specs.declared.checker.TheConstants.{MOST_TEXT};
 

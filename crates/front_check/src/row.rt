@@ -1,8 +1,7 @@
 // Whether a row holds.
 ghost use Rattle.std.specs.Prelude.{◌≡◌, ◌≤◌, ◌+◌, ◌↔◌, IsTrue, IfOk, All, length};
-ghost use Rattle.craft_settings.specs.Ranges.{AreSettings};
 ghost use Rattle.certificate_text.specs.declared.numbers.TheConstants.{MOST_NUMBER};
-ghost use Rattle.front_check.specs.Judging.{bounds_of, claim_of, IsBegun, IsClaimed, CanGoOn, RowObeys};
+ghost use Rattle.front_check.specs.Judging.{bounds_of, claim_of, IsBegun, IsClaimed, RowObeys};
 
 use crate::judge::{Claimed, holds};
 use crate::kept::Kept;

@@ -1,26 +1,19 @@
 -- The bounds keep what the fronts ask of a test.
-use Rattle.std.proofs.Common.{◌≡◌, ◌∙◌, ℕ, ◌+◌, ◌-◌, ◌≤◌, true, false, ◌||◌, ◌&&◌, nat_le, Option, Some, None, arith, refl, ap, subst}
+use Rattle.std.proofs.Common.{◌≡◌, ◌∙◌, ℕ, ◌+◌, ◌-◌, ◌≤◌, true, false, ◌||◌, ◌&&◌, nat_le, arith, refl, ap, subst}
 use Rattle.craft_state.specs.Craft.{StateFields}
 use Rattle.craft_settings.specs.Ranges.{SettingsFields}
 use Rattle.step_rules.specs.Legality.{start_of}
 use Rattle.step_rules.specs.Step.{step_of}
-use Rattle.relaxed_moves.specs.Optimum.{option_le, limit_of, within_of}
+use Rattle.relaxed_moves.specs.Optimum.{option_le, limit_of, within_of, is_enough}
+use Rattle.relaxed_moves.proofs.Greatest.{enough-more, enough-some}
 use Rattle.relaxed_moves.specs.Budget.{potential_of, start_potential_of}
 use Rattle.prefix_fronts.specs.Prefix.{AreLimits}
+use Rattle.priced_laws.proofs.Reaching.{by-first}
 use Rattle.admissible.proofs.Limits.{Later, limit-law, within-law, last-limit, last-within}
 use Rattle.admissible.proofs.Reached.{first-step, limit-not_less, potential-start, within-not_less}
-use Rattle.level_search.specs.Reaching.{is_enough, reaches}
-use Rattle.plain_lemmas.proofs.Tests.{and_both, passes_by, le_to, le_more}
+use Rattle.level_search.specs.Reaching.{reaches}
+use Rattle.plain_lemmas.proofs.Tests.{and_both, passes_by, le_to}
 use Rattle.plain_lemmas.proofs.Numbers.{one_less}
-
--- a greater bound is enough too
-enough-more : (target : ℕ) (o o' : Option ℕ) → option_le o o' → is_enough target o ≡ true → is_enough target o' ≡ true
-enough-more target None o' le h = absurd (cc)
-enough-more target (Some a) None le h = absurd le
-enough-more target (Some a) (Some b) le h = le_more target a b h le
-
-enough-some : (target most : ℕ) (o : Option ℕ) → target ≤ most → option_le (Some most) o → is_enough target o ≡ true
-enough-some target most o h le = enough-more target (Some most) o le (le_to target most h)
 
 -- a state passes before the first step
 reaches-first : (g : SettingsFields) (grain target j : ℕ) (s : StateFields) → s.effects.first ≡ true → reaches g grain target j s ≡ true
@@ -37,10 +30,6 @@ reaches-parts : (g : SettingsFields) (grain target j : ℕ) (s : StateFields) �
 unfolding reaches
 reaches-parts g grain target j s later h =
     and_both _ _ (subst (λ b. (b || (is_enough target (within_of g grain s j) && is_enough target (limit_of g grain s))) ≡ true) later h)
-
--- by whether the first step is still to come
-by-first : (P : Type 0) (s : StateFields) → (s.effects.first ≡ true → P) → (s.effects.first ≡ false → P) → P
-by-first P s to_come over = elim (s.effects.first) as (λ b. s.effects.first ≡ b → P) [ true ↦ to_come | false ↦ over ] refl
 
 pub are_limits : (g : SettingsFields) (grain target : ℕ) → 1 ≤ grain → AreLimits g target (reaches g grain target)
 are_limits g grain target low = record {

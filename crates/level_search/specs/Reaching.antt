@@ -1,15 +1,10 @@
 -- Which states may still lead to a quality, as the bounds tell it.
-use Rattle.std.specs.Prelude.{ℕ, Bool, false, List, ◌&&◌, ◌||◌, nat_le, Option, Some, None}
+use Rattle.std.specs.Prelude.{ℕ, List, ◌&&◌, ◌||◌}
 use Rattle.craft_settings.specs.Ranges.{SettingsFields}
 use Rattle.step_rules.specs.Legality.{start_of}
-use Rattle.relaxed_moves.specs.Optimum.{limit_of, within_of}
+use Rattle.relaxed_moves.specs.Optimum.{limit_of, within_of, is_enough}
 use Rattle.prefix_fronts.specs.Prefix.{Test}
 use Rattle.front_walk.specs.Walking.{sizes_below}
-
--- a bound that isn't below the target; None is below every number
-abbrev pub is_enough : ℕ → Option ℕ → Bool
-is_enough target None = false
-is_enough target (Some most) = nat_le target most
 
 -- with so many actions left, the state may still lead to the target: before the first step always, and later where
 -- neither its limit nor its limit within these actions is below the target

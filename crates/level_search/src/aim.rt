@@ -2,8 +2,9 @@
 ghost use Rattle.std.specs.Prelude.{◌≡◌, ◌≤◌};
 ghost use Rattle.step_rules.specs.Legality.{IsWithin};
 ghost use Rattle.relaxed_moves.specs.Budget.{potential_of, start_potential_of};
+ghost use Rattle.relaxed_moves.specs.Optimum.{is_enough};
 ghost use Rattle.relaxed_moves.specs.Scales.{IsScale};
-ghost use Rattle.level_search.specs.Reaching.{reaches, is_enough};
+ghost use Rattle.level_search.specs.Reaching.{reaches};
 ghost use Rattle.level_search.specs.Searching.{IsSearcherOf, StillSearches, HasSeen};
 
 use crate::searcher::Searcher;

@@ -6,40 +6,12 @@ use super::*;
 use craft_state::State;
 use std::test::Fail;
 use step_rules::{replay, start};
-
-const EASY: Settings = Settings {
-    level: 1,
-    cp: 0,
-    durability: 10,
-    progress: 100,
-    quality: 100,
-    initial: 0,
-    base_progress: 100,
-    base_quality: 100,
-    forbidden: 33554432,
-    target: 100000,
-    backload: false,
-};
-
-const ONE_TOUCH: Settings = Settings {
-    level: 5,
-    cp: 18,
-    durability: 20,
-    quality: 500,
-    ..EASY
-};
+use test_crafts::{EASY, FOUR_STEPS, ONE_TOUCH, ORDINARY};
 
 const VENERATION: Settings = Settings {
     level: 15,
     progress: 150,
     quality: 0,
-    ..ONE_TOUCH
-};
-
-const INNOVATION: Settings = Settings {
-    level: 26,
-    cp: 54,
-    progress: 150,
     ..ONE_TOUCH
 };
 
@@ -56,17 +28,6 @@ const GROUNDWORK: Settings = Settings {
     progress: 180,
     forbidden: 33560576,
     ..PERFECTION
-};
-
-const ORDINARY: Settings = Settings {
-    level: 50,
-    cp: 180,
-    durability: 40,
-    progress: 150,
-    quality: 400,
-    base_progress: 50,
-    base_quality: 101,
-    ..EASY
 };
 
 const SAMPLE: Settings = Settings {
@@ -122,13 +83,7 @@ const SYNTHESIS: Case = Case {
     counts: &[1],
     limits: &[],
     style: Report::Plain,
-    text: "steps 1 seconds 3 progress 100/100 quality 0/100
-kept 1
-macro 1
-/ac \"Basic Synthesis\" <wait.3>
-replay
-  1 Basic Synthesis         100      0   0    0
-",
+    text: test_texts::EASY,
 };
 
 const CASES: [Case; 7] = [
@@ -137,15 +92,7 @@ const CASES: [Case; 7] = [
         g: ONE_TOUCH,
         actions: &[Action::BasicTouch, Action::BasicSynthesis],
         counts: &[1, 1],
-        text: "steps 2 seconds 6 progress 100/100 quality 100/500
-kept 2
-macro 1
-/ac \"Basic Touch\" <wait.3>
-/ac \"Basic Synthesis\" <wait.3>
-replay
-  1 Basic Touch               0    100  10    0
-  2 Basic Synthesis         100    100   0    0
-",
+        text: test_texts::TOUCH,
         ..SYNTHESIS
     },
     Case {
@@ -153,13 +100,7 @@ replay
             durability: 10,
             ..ONE_TOUCH
         },
-        text: "steps 1 seconds 3 progress 100/100 quality 0/500
-kept 1
-macro 1
-/ac \"Basic Synthesis\" <wait.3>
-replay
-  1 Basic Synthesis         100      0   0   18
-",
+        text: test_texts::NO_TOUCH,
         ..SYNTHESIS
     },
     Case {
@@ -175,17 +116,7 @@ replay
             Action::BasicSynthesis,
         ],
         counts: &[1, 1, 1],
-        text: "steps 3 seconds 9 progress 100/100 quality 210/500
-kept 3
-macro 1
-/ac \"Basic Touch\" <wait.3>
-/ac \"Basic Touch\" <wait.3>
-/ac \"Basic Synthesis\" <wait.3>
-replay
-  1 Basic Touch               0    100  20   18
-  2 Basic Touch               0    210  10    0
-  3 Basic Synthesis         100    210   0    0
-",
+        text: test_texts::TWO_TOUCHES,
         ..SYNTHESIS
     },
     Case {
@@ -196,104 +127,46 @@ replay
         },
         actions: &[Action::BasicTouch, Action::BasicSynthesis],
         counts: &[1, 1],
-        text: "steps 2 seconds 6 progress 100/100 quality 100/500
-kept 2
-macro 1
-/ac \"Basic Touch\" <wait.3>
-/ac \"Basic Synthesis\" <wait.3>
-replay
-  1 Basic Touch               0    100  10   88
-  2 Basic Synthesis         100    100   0   88
-",
+        text: test_texts::MUCH_CP,
         ..SYNTHESIS
     },
     Case {
         g: VENERATION,
         actions: &[Action::Veneration, Action::BasicSynthesis],
         counts: &[1, 2],
-        text: "steps 2 seconds 5 progress 150/150 quality 0/0
-kept 3
-macro 1
-/ac \"Veneration\" <wait.2>
-/ac \"Basic Synthesis\" <wait.3>
-replay
-  1 Veneration                0      0  20    0
-  2 Basic Synthesis         150      0  10    0
-",
+        text: test_texts::VENERATION,
         ..SYNTHESIS
     },
     Case {
-        g: INNOVATION,
+        g: FOUR_STEPS,
         actions: &INNOVATING,
         counts: &[1, 4, 9, 3],
         limits: &[250, 187, 150, 150],
         style: Report::Limits,
-        text: "steps 4 seconds 10 progress 150/150 quality 150/500
-kept 17
-macro 1
-/ac \"Veneration\" <wait.2>
-/ac \"Innovation\" <wait.2>
-/ac \"Basic Touch\" <wait.3>
-/ac \"Basic Synthesis\" <wait.3>
-replay
-  1 Veneration                0      0  20   36    250
-  2 Innovation                0      0  20   18    187
-  3 Basic Touch               0    150  10    0    150
-  4 Basic Synthesis         150    150   0    0    150
-",
+        text: test_texts::INNOVATION_LIMITS,
     },
 ];
 
 const MORE_CASES: [Case; 7] = [
     Case {
-        g: INNOVATION,
+        g: FOUR_STEPS,
         actions: &INNOVATING,
         counts: &[1, 4, 9, 3],
         style: Report::Levels,
-        text: "steps 4 seconds 10 progress 150/150 quality 150/500
-kept 17
-macro 1
-/ac \"Veneration\" <wait.2>
-/ac \"Innovation\" <wait.2>
-/ac \"Basic Touch\" <wait.3>
-/ac \"Basic Synthesis\" <wait.3>
-replay
-  1 Veneration                0      0  20   36
-  2 Innovation                0      0  20   18
-  3 Basic Touch               0    150  10    0
-  4 Basic Synthesis         150    150   0    0
-level 0 1
-level 1 4
-level 2 9
-level 3 3
-",
+        text: test_texts::INNOVATION_LEVELS,
         ..SYNTHESIS
     },
     Case {
         g: PERFECTION,
         actions: &[Action::TrainedPerfection, Action::Groundwork],
         counts: &[1, 5],
-        text: "steps 2 seconds 6 progress 360/360 quality 0/0
-kept 6
-macro 1
-/ac \"Trained Perfection\" <wait.3>
-/ac \"Groundwork\" <wait.3>
-replay
-  1 Trained Perfection        0      0  10   18
-  2 Groundwork              360      0  10    0
-",
+        text: test_texts::PERFECTION,
         ..SYNTHESIS
     },
     Case {
         g: GROUNDWORK,
         actions: &[Action::Groundwork],
-        text: "steps 1 seconds 3 progress 180/180 quality 0/0
-kept 1
-macro 1
-/ac \"Groundwork\" <wait.3>
-replay
-  1 Groundwork              180      0   0    0
-",
+        text: test_texts::GROUNDWORK,
         ..SYNTHESIS
     },
     Case {
@@ -302,13 +175,7 @@ replay
             ..GROUNDWORK
         },
         actions: &[Action::MuscleMemory],
-        text: "steps 1 seconds 3 progress 180/180 quality 0/0
-kept 1
-macro 1
-/ac \"Muscle Memory\" <wait.3>
-replay
-  1 Muscle Memory           180      0   0   12
-",
+        text: test_texts::MUSCLE_MEMORY,
         ..SYNTHESIS
     },
     Case {
@@ -340,29 +207,7 @@ replay
         actions: &STRIDING,
         counts: &[1, 4, 14, 33, 43, 8],
         style: Report::Levels,
-        text: "steps 6 seconds 16 progress 150/150 quality 400/400
-kept 103
-macro 1
-/ac \"Basic Synthesis\" <wait.3>
-/ac \"Veneration\" <wait.2>
-/ac \"Standard Touch\" <wait.3>
-/ac \"Great Strides\" <wait.2>
-/ac \"Standard Touch\" <wait.3>
-/ac \"Basic Synthesis\" <wait.3>
-replay
-  1 Basic Synthesis          60      0  30  180
-  2 Veneration               60      0  30  162
-  3 Standard Touch           60    126  20  130
-  4 Great Strides            60    126  20   98
-  5 Standard Touch           60    400  10   66
-  6 Basic Synthesis         150    400   0   66
-level 0 1
-level 1 4
-level 2 14
-level 3 33
-level 4 43
-level 5 8
-",
+        text: test_texts::ORDINARY,
         ..SYNTHESIS
     },
     Case {

@@ -32,11 +32,15 @@ IsHaltOfReading most ReadFault before after = GivesFewer most before after
 IsHaltOfReading most WantMemory before after = ⊤
 IsHaltOfReading most _ before after = ⊥
 
+-- what came in is refused with this status and one of these lines; memory may be wanted in its place
+abbrev pub IsHaltBy : Status → (List ℕ → Type 0) → Halt → Type 0
+IsHaltBy status lines (Refused refusal) = (refusal.status ≡ status) × lines refusal.line.items
+IsHaltBy status lines WantMemory = ⊤
+IsHaltBy status lines _ = ⊥
+
 -- why there are no settings in the bytes
 abbrev pub IsHaltOfSettings : List ℕ → Halt → Type 0
-IsHaltOfSettings bytes (Refused refusal) = (refusal.status ≡ BadSettings) × RefusesSettings bytes refusal.line.items
-IsHaltOfSettings bytes WantMemory = ⊤
-IsHaltOfSettings bytes _ = ⊥
+IsHaltOfSettings bytes = IsHaltBy BadSettings (RefusesSettings bytes)
 
 -- a failed read is counted once, and every other end leaves the count as it was
 abbrev pub CountsHalt : {T : Type 0} → Result T Halt → ℕ → ℕ → Type 0

@@ -25,6 +25,13 @@ impl From<WantMemory> for Halt {
 }
 
 impl Halt {
+    /// What came in is refused with this line.
+    pub fn refused(status: Status, line: Vec<u8>) -> Halt
+        ensures { result ≡ Halt.Refused (record { status = status; line = line }) }
+    {
+        Halt::Refused(Refusal { status, line })
+    }
+
     pub(crate) fn status(&self) -> Status
         ensures { result ≡ status_of self.now }
     {

@@ -4,7 +4,6 @@ ghost use Rattle.craft_io.specs.Views.{GivesAtMost, ReadsAtMostTimes};
 ghost use Rattle.run_io.specs.Halts.{CountsHalt, IsHaltOfReading, IsHaltOfSettings};
 ghost use Rattle.run_io.specs.Reading.{AcceptsOnly, Reads};
 
-use crate::answer::Refusal;
 use crate::fault_lines::settings_line;
 use crate::halt::Halt;
 use crate::status::Status;
@@ -41,9 +40,6 @@ pub fn settings_in(alloc: Global, bytes: &[u8]) -> Result<Settings, Halt>
 {
     match read(alloc, bytes) {
         Ok(settings) => Ok(settings),
-        Err(fault) => Err(Halt::Refused(Refusal {
-            status: Status::BadSettings,
-            line: settings_line(alloc, &fault)?,
-        })),
+        Err(fault) => Err(Halt::refused(Status::BadSettings, settings_line(alloc, &fault)?)),
     }
 }

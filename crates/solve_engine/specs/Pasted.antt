@@ -1,5 +1,5 @@
 -- A macro that is pasted after settings.
-use Rattle.std.specs.Prelude.{ℕ, ◌≡◌, List, [], ◌∷◌, Option, None, Some, Err, codes, ⊤}
+use Rattle.std.specs.Prelude.{ℕ, ◌≡◌, List, [], ◌∷◌, Option, None, Some, Err, codes}
 use Rattle.std.specs.List.{concat}
 use Rattle.std.specs.Fmt.{decimal}
 use Rattle.action_table.specs.declared.action.Action.{Action}
@@ -7,10 +7,9 @@ use Rattle.craft_settings.specs.Ranges.{SettingsFields}
 use Rattle.macro_read.specs.Lines.{lines_of}
 use Rattle.macro_read.specs.Reading.{IsFirstOfNoKind, IsMacroText}
 use Rattle.run_io.specs.Answering.{Rows}
-use Rattle.run_io.specs.Halts.{IsIn}
+use Rattle.run_io.specs.Halts.{IsHaltBy, IsIn}
 use Rattle.run_io.specs.Reading.{AcceptsOnly}
 use Rattle.run_io.specs.declared.halt.Halt.{Halt}
-use Rattle.run_io.specs.declared.halt.Halt.TheVariants.{Refused, WantMemory}
 use Rattle.run_io.specs.declared.status.Status.TheVariants.{BadMacro}
 use Rattle.solve_engine.specs.Input.{Parts, WithRest}
 
@@ -34,9 +33,7 @@ RefusesMacro (Some text) told = FitsNoMacro text told
 
 -- why there is no macro after the settings
 abbrev pub IsHaltOfMacro : Option (List ℕ) → Halt → Type 0
-IsHaltOfMacro rest (Refused refusal) = (refusal.status ≡ BadMacro) × RefusesMacro rest refusal.line.items
-IsHaltOfMacro rest WantMemory = ⊤
-IsHaltOfMacro rest _ = ⊥
+IsHaltOfMacro rest = IsHaltBy BadMacro (RefusesMacro rest)
 
 -- what follows the settings is the text of this macro
 abbrev pub IsPasted : Option (List ℕ) → List Action → Type 0

@@ -1,5 +1,5 @@
 -- What `resume` answers.
-use Rattle.std.specs.Prelude.{ℕ, ◌≡◌, ◌+◌, ◌++◌, List, codes, ⊤}
+use Rattle.std.specs.Prelude.{ℕ, ◌≡◌, ◌+◌, ◌++◌, List, codes}
 use Rattle.action_table.specs.declared.action.Action.{Action}
 use Rattle.craft_settings.specs.Ranges.{SettingsFields}
 use Rattle.craft_state.specs.Craft.{StateFields}
@@ -11,8 +11,8 @@ use Rattle.resume_start.specs.Done.{IsAfter, IsUnderway, IsUnfit}
 use Rattle.resume_start.specs.declared.underway.Unfit.{Unfit}
 use Rattle.resume_start.specs.declared.underway.Unfit.TheVariants.{Illegal, Over}
 use Rattle.run_io.specs.Answering.{Rows, WithSettings}
+use Rattle.run_io.specs.Halts.{IsHaltBy}
 use Rattle.run_io.specs.declared.halt.Halt.{Halt}
-use Rattle.run_io.specs.declared.halt.Halt.TheVariants.{Refused, WantMemory}
 use Rattle.run_io.specs.declared.status.Status.TheVariants.{Solved, NoMacro, BadPrefix}
 
 -- the line that tells why a craft doesn't go on; the number of a step is counted from 1
@@ -27,9 +27,7 @@ RefusesDone g done line = (unfit : Unfit) × IsUnfit g done unfit × (line ≡ u
 
 -- why a craft doesn't go on after the actions that are done
 abbrev pub IsHaltOfDone : SettingsFields → List Action → Halt → Type 0
-IsHaltOfDone g done (Refused refusal) = (refusal.status ≡ BadPrefix) × RefusesDone g done refusal.line.items
-IsHaltOfDone g done WantMemory = ⊤
-IsHaltOfDone g done _ = ⊥
+IsHaltOfDone g done = IsHaltBy BadPrefix (RefusesDone g done)
 
 -- the text of the best list after the actions that are done, from the state that these lead to
 pub record TellsRest (g : SettingsFields) (done : List Action) (text : List ℕ) : Type 0 where

@@ -1,5 +1,5 @@
 -- What `verify` answers.
-use Rattle.std.specs.Prelude.{ℕ, ◌≡◌, ◌<◌, ◌≤◌, ◌⊎◌, List, [], ◌∷◌, Option, None, Some, length, codes, ⊤}
+use Rattle.std.specs.Prelude.{ℕ, ◌≡◌, ◌<◌, ◌≤◌, ◌⊎◌, List, [], ◌∷◌, Option, None, Some, length, codes}
 use Rattle.std.specs.List.{concat}
 use Rattle.std.specs.Fmt.{decimal}
 use Rattle.action_table.specs.declared.action.Action.{Action}
@@ -7,10 +7,10 @@ use Rattle.craft_settings.specs.Ranges.{SettingsFields}
 use Rattle.certificate_laws.specs.Certificate.{IsCertificate}
 use Rattle.certificate_laws.specs.Lines.{IsFirstFault}
 use Rattle.run_io.specs.Answering.{Rows}
+use Rattle.run_io.specs.Halts.{IsHaltBy}
 use Rattle.run_io.specs.Reading.{AcceptsOnly, RefusesSettings}
 use Rattle.run_io.specs.declared.answer.Answer.{Answer}
 use Rattle.run_io.specs.declared.halt.Halt.{Halt}
-use Rattle.run_io.specs.declared.halt.Halt.TheVariants.{Refused, WantMemory}
 use Rattle.run_io.specs.declared.status.Status.TheVariants.{Solved, BadSettings, BadCertificate}
 use Rattle.solve_engine.specs.Input.{AreParts}
 use Rattle.front_check.specs.declared.checker.TheConstants.{MOST_TEXT}
@@ -73,6 +73,4 @@ pub record IsAccepted (g : SettingsFields) (rest : Option (List ℕ)) (answer : 
 
 -- why it isn't
 abbrev pub IsHaltOfProof : SettingsFields → Option (List ℕ) → Halt → Type 0
-IsHaltOfProof g rest (Refused refusal) = (refusal.status ≡ BadCertificate) × RefusesProof g rest refusal.line.items
-IsHaltOfProof g rest WantMemory = ⊤
-IsHaltOfProof g rest _ = ⊥
+IsHaltOfProof g rest = IsHaltBy BadCertificate (RefusesProof g rest)

@@ -7,7 +7,7 @@ ghost use Rattle.solve_engine.specs.Certify.{CertifiesTo, CertifyAnswers};
 
 use crate::machine::Machine;
 use crate::searches::best_of;
-use crate::solve::none_text;
+use crate::solve::nothing;
 use action_table::WantMemory;
 use craft_settings::Settings;
 use run_io::{Answer, Halt, Status, settings_in};
@@ -40,10 +40,7 @@ fn certified<R: Threads + Sync, G: Gate>(
 {
     let alloc = machine.alloc;
     let Some(actions) = best_of(machine, g, given)? else {
-        return Ok(Answer {
-            status: Status::NoMacro,
-            text: none_text(alloc)?,
-        });
+        return nothing(alloc);
     };
     Ok(Answer {
         status: Status::Solved,

@@ -12,7 +12,7 @@ ghost use Rattle.solve_engine.specs.Solve.{IsMacroText};
 use crate::machine::Machine;
 use crate::pasted::{Pasted, pasted_in};
 use crate::searches::{Found, best_of, find};
-use crate::solve::{macro_text, none_text};
+use crate::solve::{macro_text, nothing};
 use action_table::WantMemory;
 use craft_settings::Settings;
 use macro_order::laws::one_is_best;
@@ -55,10 +55,7 @@ fn checked<R: Threads + Sync, G: Gate>(
         });
     }
     let Some(mut found) = find(machine, &pasted.craft, given)? else {
-        return Ok(Answer {
-            status: Status::NoMacro,
-            text: none_text(alloc)?,
-        });
+        return nothing(alloc);
     };
     Ok(Answer {
         status: Status::NotBest,

@@ -8,7 +8,7 @@ ghost use Rattle.solve_engine.specs.Pasted.{IsHaltOfInput, IsHaltOfMacro, IsInpu
 use action_table::{Action, WantMemory};
 use craft_settings::{MAX_LENGTH, Settings};
 use macro_read::{MacroFault, divide, macro_of};
-use run_io::{Halt, Refusal, Status, settings_in};
+use run_io::{Halt, Status, settings_in};
 use std::alloc::Global;
 
 /// A craft, and a macro for it.
@@ -52,22 +52,16 @@ fn actions_in(alloc: Global, rest: Option<&[u8]>) -> Result<Vec<Action>, Halt>
     ensures halts { IfErr result (IsHaltOfMacro (option_map (λ text. text.now) rest.entry)) }
 {
     let Some(text) = rest else {
-        return Err(refusal(no_mark_text(alloc)?));
+        return Err(Halt::refused(Status::BadMacro, no_mark_text(alloc)?));
     };
     match macro_of(alloc, text) {
         Ok(actions) => Ok(actions),
-        Err(MacroFault::BadLine { line }) => Err(refusal(bad_line_text(alloc, line)?)),
+        Err(MacroFault::BadLine { line }) => Err(Halt::refused(
+            Status::BadMacro,
+            bad_line_text(alloc, line)?,
+        )),
         Err(MacroFault::WantMemory) => Err(Halt::WantMemory),
     }
-}
-
-fn refusal(line: Vec<u8>) -> Halt
-    ensures { result ≡ Halt.Refused (record { status = Status.BadMacro; line = line }) }
-{
-    Halt::Refused(Refusal {
-        status: Status::BadMacro,
-        line,
-    })
 }
 
 fn no_mark_text(alloc: Global) -> Result<Vec<u8>, WantMemory>

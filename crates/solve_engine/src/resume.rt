@@ -8,13 +8,13 @@ ghost use Rattle.run_io.specs.declared.reading.TheConstants.{READ_MOST};
 ghost use Rattle.solve_engine.specs.Resume.{IsHaltOfDone, ResumeAnswers, ResumesTo, unfit_line};
 
 use crate::machine::Machine;
-use crate::solve::none_text;
+use crate::solve::nothing;
 use action_table::{Action, WantMemory};
 use best_search::seekers;
 use craft_settings::Settings;
 use replay_report::{continuation, reason_word};
 use resume_start::{Underway, Unfit, best_rest};
-use run_io::{Answer, Halt, Refusal, Status, settings_in};
+use run_io::{Answer, Halt, Status, settings_in};
 use std::alloc::Global;
 use std::thread::Threads;
 use worker_gate::{Crew, Gate};
@@ -43,10 +43,7 @@ fn craft_after<'a>(alloc: Global, g: &'a Settings, done: &'a [Action]) -> Result
 {
     match Underway::after(g, done) {
         Ok(craft) => Ok(craft),
-        Err(unfit) => Err(Halt::Refused(Refusal {
-            status: Status::BadPrefix,
-            line: unfit_text(alloc, unfit)?,
-        })),
+        Err(unfit) => Err(Halt::refused(Status::BadPrefix, unfit_text(alloc, unfit)?)),
     }
 }
 
@@ -76,10 +73,7 @@ fn resumed<R: Threads + Sync, G: Gate>(
     let Machine { rt, alloc, gate } = *machine;
     let mut crew = Crew::new(rt, gate, seekers(alloc, workers)?);
     let Some(rest) = best_rest(&mut crew, alloc, craft)? else {
-        return Ok(Answer {
-            status: Status::NoMacro,
-            text: none_text(alloc)?,
-        });
+        return nothing(alloc);
     };
     Ok(Answer {
         status: Status::Solved,

@@ -2,8 +2,6 @@
 ghost use Rattle.std.specs.Prelude.{◌≡◌, ◌≤◌, IfOk, MatchOption, All, length};
 ghost use Rattle.level_search.specs.Searching.{IsSearcherOf};
 ghost use Rattle.macro_order.specs.Order.{IsBest, NothingCompletes};
-ghost use Rattle.prefix_fronts.specs.Prefix.{IsGreatest};
-ghost use Rattle.step_rules.specs.Macro.{IsReached};
 ghost use Rattle.seat_tables.specs.Seats.{IsOf};
 ghost use Rattle.solve_words.specs.Words.{AreInRange};
 ghost use Rattle.solve_engine.specs.Search.{IsFound};

@@ -49,10 +49,7 @@ fn solve_for<R: Threads + Sync, G: Gate>(
 {
     let alloc = machine.alloc;
     let Some(mut found) = find(machine, g, given)? else {
-        return Ok(Answer {
-            status: Status::NoMacro,
-            text: none_text(alloc)?,
-        });
+        return Ok(nothing(alloc)?);
     };
     Ok(Answer {
         status: Status::Solved,
@@ -60,11 +57,15 @@ fn solve_for<R: Threads + Sync, G: Gate>(
     })
 }
 
-/// The text where no legal macro completes the craft.
-pub(crate) fn none_text(alloc: Global) -> Result<Vec<u8>, WantMemory>
-    ensures { IfOk result (λ text. text.items ≡ none_line) }
+/// The answer where no legal macro completes the craft.
+pub(crate) fn nothing(alloc: Global) -> Result<Answer, WantMemory>
+    ensures status { IfOk result (λ answer. answer.status ≡ Status.NoMacro) }
+    ensures text { IfOk result (λ answer. answer.text.items ≡ none_line) }
 {
-    Ok(Vec::from_slice(alloc, b"none\n")?)
+    Ok(Answer {
+        status: Status::NoMacro,
+        text: Vec::from_slice(alloc, b"none\n")?,
+    })
 }
 
 /// The text of the macro in a style.

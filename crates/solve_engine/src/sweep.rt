@@ -7,7 +7,7 @@ ghost use Rattle.solve_engine.specs.Sweep.{SweepAnswers, SweepsTo};
 
 use crate::machine::Machine;
 use crate::searches::best_of;
-use crate::solve::none_text;
+use crate::solve::nothing;
 use crate::sweep_text::{least_text, short_text};
 use action_table::{Action, WantMemory};
 use craft_settings::Settings;
@@ -69,10 +69,7 @@ fn swept<V: Solver>(alloc: Global, g: &Settings, solver: &mut V) -> Result<Answe
     ensures { IfOk result (IsAnswerIn (SweepsTo g.now)) }
 {
     match stat_sweep::sweep(alloc, g, solver)? {
-        Swept::Nothing => Ok(Answer {
-            status: Status::NoMacro,
-            text: none_text(alloc)?,
-        }),
+        Swept::Nothing => nothing(alloc),
         Swept::Short { at } => Ok(Answer {
             status: Status::NotReached,
             text: short_text(alloc, g, &at)?,

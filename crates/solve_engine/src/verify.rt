@@ -8,7 +8,7 @@ use crate::pasted::parts_within;
 use action_table::WantMemory;
 use craft_settings::Settings;
 use front_check::{CertFault, MOST_TEXT};
-use run_io::{Answer, Halt, Refusal, Status, settings_in};
+use run_io::{Answer, Halt, Status, settings_in};
 use std::alloc::Global;
 
 /// One byte more than settings and a certificate have together, so that a longer input is seen.
@@ -19,7 +19,7 @@ pub(crate) fn verify(alloc: Global, input: &[u8]) -> Result<Answer, Halt>
     ensures { IsIn (VerifyAnswers input.now) result }
 {
     if input.len() > MOST_TEXT {
-        return Err(refusal(long_text(alloc)?));
+        return Err(Halt::refused(Status::BadCertificate, long_text(alloc)?));
     }
     let (settings, rest) = parts_within(input, MOST_TEXT);
     let craft = settings_in(alloc, settings)?;
@@ -33,25 +33,19 @@ fn judged(alloc: Global, g: &Settings, rest: Option<&[u8]>) -> Result<Answer, Ha
     ensures halts { IfErr result (IsHaltOfProof g.now (option_map (λ text. text.now) rest.entry)) }
 {
     let Some(bytes) = rest else {
-        return Err(refusal(no_mark_text(alloc)?));
+        return Err(Halt::refused(Status::BadCertificate, no_mark_text(alloc)?));
     };
     match front_check::verify(alloc, g, bytes) {
         Ok(_best) => Ok(Answer {
             status: Status::Solved,
             text: accepted_text(alloc)?,
         }),
-        Err(CertFault::Refused { line }) => Err(refusal(refused_text(alloc, line)?)),
+        Err(CertFault::Refused { line }) => Err(Halt::refused(
+            Status::BadCertificate,
+            refused_text(alloc, line)?,
+        )),
         Err(CertFault::WantMemory) => Err(Halt::WantMemory),
     }
-}
-
-fn refusal(line: Vec<u8>) -> Halt
-    ensures { result ≡ Halt.Refused (record { status = Status.BadCertificate; line = line }) }
-{
-    Halt::Refused(Refusal {
-        status: Status::BadCertificate,
-        line,
-    })
 }
 
 fn accepted_text(alloc: Global) -> Result<Vec<u8>, WantMemory>

@@ -6,8 +6,7 @@ ghost use Rattle.run_io.specs.Statuses.{code_of};
 ghost use Rattle.solve_engine.specs.Commands.{most_for};
 ghost use Rattle.solve_engine.specs.Words.{AreBad};
 
-use craft_io::{StdSink, StdSource};
-use program_words::words;
+use craft_io::{Sink, Source, StdSink, StdSource};
 use solve_engine::{Status, run};
 use std::env::Env;
 use std::io::{Read, Write};
@@ -24,35 +23,23 @@ pub fn play<
 >(rt: &R, input: I, output: O, errors: E) -> u8
     ensures { (status : Status) × (result ≡ code_of status) }
 {
-    let Ok(words) = words(rt) else {
-        return Status::WantMemory.code();
-    };
-    answer(rt, &words, input, output, errors)
+    let source = StdSource::new(input);
+    let (out, err) = (StdSink::new(output), StdSink::new(errors));
+    program_words::play(rt, source, out, err, |words, source, out, err| {
+        answer(rt, words, source, out, err)
+    })
 }
 
-// The exit status of the program for these words.
-fn answer<R: AllocGlobal + Threads + Sync, I: Read + Drop, O: Write + Drop, E: Write + Drop>(
+// How the run for these words ends.
+fn answer<R: AllocGlobal + Threads + Sync, S: Source, O: Sink, E: Sink>(
     rt: &R,
     words: &[String],
-    input: I,
-    output: O,
-    errors: E,
-) -> u8
-    ensures status { (status : Status) × (result ≡ code_of status) }
-    ensures bad_words { (result ≡ code_of Status.BadWords) ↔ (AreBad words.now × (result ≢ code_of Status.WantMemory)) }
-    ensures bad_settings { result ≡ code_of Status.BadSettings → 1 ≤ most_for words.now }
+    source: &mut S,
+    out: &mut O,
+    err: &mut E,
+) -> Status
+    ensures bad_words { (result ≡ Status.BadWords) ↔ (AreBad words.now × (result ≢ Status.WantMemory)) }
+    ensures bad_settings { result ≡ Status.BadSettings → 1 ≤ most_for words.now }
 {
-    let mut source = StdSource::new(input);
-    let mut out = StdSink::new(output);
-    let mut err = StdSink::new(errors);
-    let status = run(
-        rt,
-        rt.alloc(),
-        words,
-        &mut source,
-        &mut out,
-        &mut err,
-        &FreeGate,
-    );
-    status.code()
+    run(rt, rt.alloc(), words, source, out, err, &FreeGate)
 }

@@ -1,8 +1,5 @@
-use Rattle.std.proofs.Common.{◌≡◌, ◌∙◌, sym, subst, Some}
+use Rattle.std.proofs.Common.{◌∙◌, sym, subst}
 use Rattle.craft_settings.specs.Ranges.{AreSettings}
-use Rattle.macro_order.specs.Order.{score_of}
-use Rattle.front_check.specs.Judging.{claim_of}
-use Rattle.certificate_laws.specs.Made.{IsMade}
 use Rattle.certificate_laws.proofs.Made.{made-certificate}
 use Rattle.certificate_maker.proofs.Texted.{written-made}
 use Rattle.certificate_maker.proofs.certify.Goals as goal

@@ -1,4 +1,4 @@
-use Rattle.std.proofs.Common.{rules, ◌≡◌, ◌∙◌, sym, ap, subst, refl, arith, ◌+◌, ◌<◌, ◌≤◌, ◌^◌, ◌++◌, [], ◌∷◌, All, List, ℕ, Vec, length, string_bytes}
+use Rattle.std.proofs.Common.{rules, ◌≡◌, ◌∙◌, sym, ap, subst, refl, arith, ◌<◌, ◌≤◌, ◌^◌, ◌++◌, [], ◌∷◌, All, List, ℕ, Vec, length, string_bytes}
 use Rattle.std.specs.declared.alloc.Global.{Global}
 use Rattle.pareto_front.specs.declared.node.Node.{Node}
 use Rattle.front_check.specs.Judging.{claim_of}

@@ -7,4 +7,4 @@ returns-in-Ok-clause-accepted c = are_only c.in-Ok.settings _ c.in-Ok.ensures.ac
 
 pub returns-in_ok-settings_line-in-Err-clause-halts : goal.returns-in_ok-settings_line-in-Err-clause-halts
 returns-in_ok-settings_line-in-Err-clause-halts c =
-    (refl, are_refused c.in-Err.fault _ _ c.in_ok-settings_line-in-Err.ensures.memory c.in-Err.ensures.fault c.in_ok-settings_line-in-Err.ensures.line)
+    rw c.refused.ensures (refl, are_refused c.in-Err.fault _ _ c.in_ok-settings_line-in-Err.ensures.memory c.in-Err.ensures.fault c.in_ok-settings_line-in-Err.ensures.line)
