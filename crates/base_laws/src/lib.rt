@@ -1,4 +1,4 @@
-//! What the numbers and lists of the low crates are. A function's contract is the law; its body does nothing.
+//! What the numbers and lists are that contracts of several crates cite. A function's contract is the law; its body does nothing.
 #![tactic(auto)]
 
 ghost use Rattle.std.specs.Prelude.{◌≡◌, ◌+◌, ◌++◌, true, false, map, take, drop};
@@ -9,6 +9,9 @@ ghost use Rattle.relaxed_moves.specs.declared.places.TheConstants.{BUCKET_STATES
 ghost use Rattle.craft_settings.specs.declared.reader.TheConstants.{MAX_LENGTH};
 ghost use Rattle.run_io.specs.declared.reading.TheConstants.{READ_MOST};
 ghost use Rattle.step_rules.specs.declared.legality.TheConstants.{MOST_STEPS};
+ghost use Rattle.stat_sweep.specs.declared.TheConstants.{MOST_BASE};
+ghost use Rattle.front_check.specs.declared.checker.TheConstants.{MOST_TEXT};
+ghost use Rattle.certificate_text.specs.declared.numbers.TheConstants.{MOST_NUMBER};
 
 /// There are 26 actions, and their list is in the action order.
 pub fn order_law()
@@ -24,6 +27,13 @@ pub fn numbers_law()
     ensures states { BUCKET_STATES ≡ 1100 }
     ensures length { MAX_LENGTH ≡ 65536 }
     ensures read { READ_MOST ≡ 65537 }
+{}
+
+/// A sweep tries bases up to 5000; a certificate has at most 16777216 bytes, and its numbers are at most 1000000000.
+pub fn commands_law()
+    ensures base { MOST_BASE ≡ 5000 }
+    ensures text { MOST_TEXT ≡ 16777216 }
+    ensures number { MOST_NUMBER ≡ 1000000000 }
 {}
 
 /// The second version of the settings has the whole list of keys, and the first the same list without
