@@ -126,10 +126,10 @@ pub visits_cut : (g : SettingsFields) (allows : StateFields → Type 0) (from c 
 visits_cut g allows from c found limit best none cut =
     visits_nothing g allows from c found best (no_better-cut g c (min (cap_of g) limit) best (no_better-limited g c limit none) cut)
 
-pub visits_found : (g : SettingsFields) (allows : StateFields → Type 0) (from c : StateFields) (limit : ℕ) (found : List Candidate) (best : Option ℕ) →
-    IsChild g allows from c → is_over g c ≡ false → NoBetter g c (Some limit) → Visits g allows from c found (found ++ (record { state = c; limit = limit }) ∷ []) best best
-visits_found g allows from c limit found best child live none =
-    let next : Candidate = record { state = c; limit = limit } in
+pub visits_found : (g : SettingsFields) (allows : StateFields → Type 0) (from c : StateFields) (limit rank : ℕ) (found : List Candidate) (best : Option ℕ) →
+    IsChild g allows from c → is_over g c ≡ false → NoBetter g c (Some limit) → Visits g allows from c found (found ++ (record { state = c; limit = limit; rank = rank }) ∷ []) best best
+visits_found g allows from c limit rank found best child live none =
+    let next : Candidate = record { state = c; limit = limit; rank = rank } in
     let here : IsOpen g c = record { within = child.within; live = live } in
     record {
       settled = inr (covered-itself (Stands (found ++ next ∷ [])) c (record { candidate = next; there = Contains-push found next; same = refl }));

@@ -90,7 +90,7 @@ pub record Expands (g : SettingsFields) (allows : StateFields → Type 0) (from 
   pub becomes : Becomes g from best best'
 
 -- a legal action leads to the state from some state of the batch
-pub record IsFound (g : SettingsFields) (batch : List Candidate) (s : StateFields) : Type 0 where
+pub record IsFoundBy (g : SettingsFields) (batch : List Candidate) (s : StateFields) : Type 0 where
   pub parent : Candidate
   pub there : Contains batch parent
   pub next : IsNext g parent.state s
@@ -99,7 +99,7 @@ pub record IsFound (g : SettingsFields) (batch : List Candidate) (s : StateField
 pub record Explores (g : SettingsFields) (allows : StateFields → Type 0) (from : StateFields) (batch found : List Candidate)
     (best best' : Option ℕ) : Type 0 where
   pub expanded : (p : Candidate) → Contains batch p → IsExpanded g (Stands found) best' p.state
-  pub fresh : (x : Candidate) → Contains found x → IsFound g batch x.state
+  pub fresh : (x : Candidate) → Contains found x → IsFoundBy g batch x.state
   pub waits : All (IsWaiting g allows from) found
   pub rises : Rises best best'
   pub becomes : Becomes g from best best'

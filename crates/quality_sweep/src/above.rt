@@ -63,6 +63,7 @@ pub(crate) fn first<C: Ceiling>(outlook: &Outlook<'_, C>) -> Candidate
     Candidate {
         state: *outlook.from,
         limit: outlook.g.cap(),
+        rank: outlook.g.cap(),
     }
 }
 

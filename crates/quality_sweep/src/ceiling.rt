@@ -16,4 +16,9 @@ pub trait Ceiling: Sync {
     fn limit(&self, s: &State) -> Option<u32>
         requires { allows self.now s.now }
         ensures { result ≡ limit_of self.now s.now };
+
+    /// How much a state promises, where a dive can't keep all: those of more rank are kept before those of less. `limit` is
+    /// what `limit` answered for the state. Any number is right, since it only says where a dive looks.
+    fn rank(&self, s: &State, limit: u32) -> u32
+        requires { allows self.now s.now };
 }

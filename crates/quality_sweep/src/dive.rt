@@ -14,11 +14,31 @@ use action_table::WantMemory;
 use pareto_front::Kept;
 use std::alloc::Global;
 
-// How many states are kept of a level, dive after dive. A narrow dive costs next to nothing and often reaches the cap.
-const WIDTHS: [usize; 3] = [30, 300, 3000];
+// How many states are kept of a level, dive after dive. These dives cost next to nothing and often reach the cap.
+const NARROW: [usize; 2] = [30, 300];
 
-// How many are kept where the last of these dives still found more than the one before it.
+// How many are kept by the dive after them.
+const WIDE: usize = 3000;
+
+// How many are kept where the wide dive still found more than the narrow ones.
 const WIDEST: usize = 30000;
+
+/// A quality with which some list completes the craft from the state, found soon. It needn't be the greatest, and None
+/// says only that narrow dives find no such list. Errors: only where memory runs out.
+pub fn quick_from<C: Ceiling>(
+    alloc: Global,
+    outlook: &Outlook<'_, C>,
+) -> Result<Option<u32>, WantMemory>
+    requires looks { IsOutlook outlook.now.g.now (C.allows outlook.now.ceiling.now) (C.limit_of outlook.now.ceiling.now)
+        outlook.now.from.now }
+    ensures { IfOk result (λ best. IfSome best (IsReachedFrom outlook.now.g.now outlook.now.from.now)) }
+{
+    let mut best = None;
+    for width in NARROW {
+        best = dive_once(alloc, outlook, width, best)?;
+    }
+    Ok(best)
+}
 
 /// A quality with which some list completes the craft, if one is found. Dives of more and more width go on until one
 /// reaches the cap; the widest is for crafts where width still helps.
@@ -30,12 +50,8 @@ pub(crate) fn dive<C: Ceiling>(
         outlook.now.from.now }
     ensures { IfOk result (λ best. IfSome best (IsReachedFrom outlook.now.g.now outlook.now.from.now)) }
 {
-    let mut before = None;
-    let mut best = None;
-    for width in WIDTHS {
-        before = best;
-        best = dive_once(alloc, outlook, width, best)?;
-    }
+    let before = quick_from(alloc, outlook)?;
+    let best = dive_once(alloc, outlook, WIDE, before)?;
     if best == before {
         Ok(best)
     } else {
@@ -69,7 +85,7 @@ fn dive_once<C: Ceiling>(
     Ok(best)
 }
 
-// Of the found states so many with the greatest limits, without those that another of them covers.
+// Of the found states so many with the greatest ranks, without those that another of them covers.
 fn choose_highest(
     alloc: Global,
     found: &mut [Candidate],
@@ -78,7 +94,7 @@ fn choose_highest(
 ) -> Result<(), WantMemory>
     ensures { OnOk result ((c : CandidateFields) → Contains level.new.items c → Contains found.old c) }
 {
-    found.sort_unstable_by_key(|c| u32::MAX - c.limit);
+    found.sort_unstable_by_key(|c| u32::MAX - c.rank);
     level.clear();
     let mut kept = Kept::new(alloc);
     for candidate in found.iter() {

@@ -110,6 +110,7 @@ fn visit<C: Ceiling>(
     found.push(Candidate {
         state: *child,
         limit,
+        rank: outlook.ceiling.rank(child, limit),
     })?;
     Ok(best)
 }

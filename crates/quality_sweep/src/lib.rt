@@ -16,4 +16,5 @@ mod tests;
 
 pub use ceiling::Ceiling;
 pub use descent::greatest_from;
+pub use dive::quick_from;
 pub use outlook::Outlook;

@@ -1,6 +1,6 @@
 ghost use Rattle.std.specs.Prelude.{◌≤◌};
 
-use crate::{Ceiling, Outlook, greatest_from};
+use crate::{Ceiling, Outlook, greatest_from, quick_from};
 use action_table::{Action, WantMemory};
 use craft_settings::Settings;
 use craft_state::State;
@@ -26,6 +26,10 @@ impl Ceiling for Cap {
     fn limit(&self, _s: &State) -> Option<u32> {
         Some(self.settings.cap())
     }
+
+    fn rank(&self, s: &State, _limit: u32) -> u32 {
+        s.quality
+    }
 }
 
 // Whether this is the greatest quality after some actions.
@@ -45,6 +49,20 @@ fn is_greatest(
         ceiling: &Cap { settings: *g },
     };
     Ok(greatest_from(alloc, &outlook)? == expected)
+}
+
+// Whether this is the quality that narrow dives find from the start.
+#[tactic(auto, using(crate::proofs::Capped::cap_is_ceiling))]
+fn is_found_soon(alloc: Global, g: &Settings, expected: Option<u32>) -> Result<bool, WantMemory> {
+    let Some(from) = open_after(g, &[]) else {
+        return Ok(false);
+    };
+    let outlook = Outlook {
+        g,
+        from: &from,
+        ceiling: &Cap { settings: *g },
+    };
+    Ok(quick_from(alloc, &outlook)? == expected)
 }
 
 // Crafts whose dives reach the cap, and crafts that are swept.
@@ -80,6 +98,25 @@ fn finds_the_greatest_from_the_start(rt: HostRuntime) -> Result<(), Fail> {
     ];
     for (g, expected) in &rows {
         assert!(rt; is_greatest(rt.alloc(), g, &[], *expected)?);
+    }
+    Ok(())
+}
+
+// Narrow dives find the greatest quality of crafts of few steps, and nothing where nothing completes.
+#[test]
+fn finds_the_quality_of_small_crafts_soon(rt: HostRuntime) -> Result<(), Fail> {
+    let rows = [
+        (craft(1, 0, 10, 100, 100), Some(0)),
+        (craft(1, 0, 10, 101, 100), None),
+        (craft(5, 18, 20, 100, 500), Some(100)),
+        (craft(5, 18, 20, 100, 100), Some(100)),
+        (craft(11, 36, 30, 100, 500), Some(210)),
+        (craft(10, 36, 30, 100, 500), Some(200)),
+        (FOUR_STEPS, Some(150)),
+        (ORDINARY, Some(400)),
+    ];
+    for (g, expected) in &rows {
+        assert!(rt; is_found_soon(rt.alloc(), g, *expected)?);
     }
     Ok(())
 }

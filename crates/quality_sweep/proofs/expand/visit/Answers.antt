@@ -39,4 +39,4 @@ returns g c =
     (c.requires.looks.ceiling.most c.args.child.now here (c.requires.child.allowed here) c.requires.child.later)
     in
     subst (λ (l : List Candidate). Visits c.args.outlook.now.g.now (g.C.Ceiling.allows c.args.outlook.now.ceiling.now) c.args.outlook.now.from.now c.args.child.now c.args.found.now.items l c.args.best c.args.best) (sym c.in_ok-push.ensures.items)
-    (visits_found c.args.outlook.now.g.now (g.C.Ceiling.allows c.args.outlook.now.ceiling.now) c.args.outlook.now.from.now c.args.child.now c.in-Some.limit c.args.found.now.items c.args.best c.requires.child live none)
+    (visits_found c.args.outlook.now.g.now (g.C.Ceiling.allows c.args.outlook.now.ceiling.now) c.args.outlook.now.from.now c.args.child.now c.in-Some.limit c.rank.result c.args.found.now.items c.args.best c.requires.child live none)
