@@ -1,8 +1,10 @@
 -- What the workers found, joined.
-use Rattle.std.proofs.Common.{◌≡◌, ◌∙◌, sym, ℕ, zero, suc, ◌+◌, ◌<◌, ◌≤◌, Bool, true, is_ok, List, [], ◌∷◌, ◌++◌, append_assoc, append-nil, length, get_or, Vec, Global, Result, Ok, Err, IsOk, IfOk, arith, ap, map, refl, subst}
+use Rattle.std.proofs.Common.{◌≡◌, ◌∙◌, sym, ℕ, zero, suc, ◌+◌, ◌-◌, ◌<◌, ◌≤◌, Bool, true, is_ok, List, [], ◌∷◌, ◌++◌, append_assoc, append-nil, length, take, get_or, Vec, Global, Result, Ok, Err, IsOk, IfOk, arith, ap, map, refl, subst}
+use Rattle.std.specs.Borrow.{Bor}
 use Rattle.std.specs.List.{flat_map, All, AllZip}
 use Rattle.std.proofs.Math.ListN.{get_or-map}
-use Rattle.std.proofs.lemmas.List.{length-map}
+use Rattle.std.proofs.lemmas.List.{length-map, take_more}
+use Rattle.std.proofs.lemmas.List.Concat.{flat_map-append}
 use Rattle.worker_gate.specs.Cut.{cut}
 use Rattle.worker_gate.proofs.Cuts.{cuts_once}
 use Rattle.action_table.specs.declared.action.Action.{Action}
@@ -11,9 +13,9 @@ use Rattle.craft_state.specs.Craft.{StateFields}
 use Rattle.craft_settings.specs.Ranges.{SettingsFields}
 use Rattle.prefix_fronts.specs.Prefix.{Test}
 use Rattle.pareto_front.specs.declared.node.Node.{Node}
+use Rattle.pareto_front.specs.Pieces.{nodes_of}
 use Rattle.front_walk.specs.declared.walker.Walker.{Walker}
-use Rattle.front_walk.specs.Nodes.{nodes_by, nodes_upto, roots, roots_upto}
-use Rattle.front_walk.proofs.Collected.{nodes_upto-none, nodes_upto-all}
+use Rattle.front_walk.specs.Nodes.{nodes_upto, roots, roots_upto}
 use Rattle.front_walk.specs.Asking.{AllMayAsk, AllStillAsk, HasFound, nodes_in}
 
 pub roots-first : (s : StateFields) (passes : Test) (n k : ℕ) → k ≡ 0 → roots_upto s passes n k ≡ []
@@ -58,17 +60,31 @@ joined {A} may_ask still t before after found whole =
     let end : 0 + length after ≡ length before = omega (arith, found.as_many) in
     pieces t after 0 each ∙ ap t end
 
--- ranges that are expanded give the children of the level
-pub expanded : {A : Type 0} (may_ask : A → Type 0) (still : A → A → Type 0) (g : SettingsFields) (test : StateFields → Action → Bool) (level : List Node) (before after : List (Walker A)) → 1 ≤ length after →
-    HaveFound may_ask still (λ k. nodes_upto g test level (cut (length level) (length before) k)) before after → All (λ w. IsOk w.found) after →
-    flat_map (λ (w : Walker A). nodes_in w.found) after ≡ nodes_by g test level
-expanded {A} may_ask still g test level before after some found whole =
+-- one list more
+pub lists-more : {A : Type 0} (first : List Node) (lists lists' : List (Bor (List Node))) (list : Bor (List Node)) (ws : List (Walker A)) (i : ℕ) (w : Walker A) → i < length ws → w ≡ get_or ws i w →
+    nodes_of lists ≡ first ++ flat_map (λ (w : Walker A). nodes_in w.found) (take i ws) → lists' ≡ lists ++ list ∷ [] → list.now ≡ nodes_in w.found →
+    nodes_of lists' ≡ first ++ flat_map (λ (w : Walker A). nodes_in w.found) (take (i + 1) ws)
+lists-more {A} first lists lists' list ws i w below is so more same =
+    let f : Walker A → List Node = λ w. nodes_in w.found in
+    let now : Bor (List Node) → List Node = λ l. l.now in
+    let taken : take (i + 1) ws ≡ take i ws ++ w ∷ [] = take_more ws i w below ∙ ap (λ (z : Walker A). take i ws ++ z ∷ []) (sym is) in
+    let here : list.now ++ [] ≡ f w = append-nil list.now ∙ same in
+    let last : flat_map f (take (i + 1) ws) ≡ flat_map f (take i ws) ++ f w =
+    ap (flat_map f) taken ∙ flat_map-append f (take i ws) (w ∷ []) ∙ ap (λ (l : List Node). flat_map f (take i ws) ++ l) (append-nil (f w)) in
+    ap nodes_of more ∙ flat_map-append now lists (list ∷ []) ∙ (λ j. so j ++ here j) ∙ append_assoc first (flat_map f (take i ws)) (f w)
+    ∙ ap (λ (l : List Node). first ++ l) (sym last)
+
+-- ranges that are expanded give the children of the slice
+pub expanded : {A : Type 0} (may_ask : A → Type 0) (still : A → A → Type 0) (g : SettingsFields) (test : StateFields → Action → Bool) (level : List Node) (from to : ℕ) (before after : List (Walker A)) →
+    from ≤ to → 1 ≤ length after → HaveFound may_ask still (λ k. nodes_upto g test level (from + cut (to - from) (length before) k)) before after → All (λ w. IsOk w.found) after →
+    nodes_upto g test level from ++ flat_map (λ (w : Walker A). nodes_in w.found) after ≡ nodes_upto g test level to
+expanded {A} may_ask still g test level from to before after order some found whole =
     let count = length before in
-    let cuts = cuts_once (length level) count (omega (arith, some, found.as_many)) in
-    let none = nodes_upto-none g test level (cut (length level) count 0) cuts.first in
-    let all = nodes_upto-all g test level (cut (length level) count count) (omega (arith, cuts.last)) in
-    ap (λ (l : List Node). l ++ flat_map (λ (w : Walker A). nodes_in w.found) after) (sym none)
-    ∙ joined may_ask still (λ k. nodes_upto g test level (cut (length level) count k)) before after found whole ∙ all
+    let cuts = cuts_once (to - from) count (omega (arith, some, found.as_many)) in
+    let first : from ≡ from + cut (to - from) count 0 = omega (arith, cuts.first) in
+    let last : from + cut (to - from) count count ≡ to = omega (arith, cuts.last, order) in
+    ap (λ (i : ℕ). nodes_upto g test level i ++ flat_map (λ (w : Walker A). nodes_in w.found) after) first
+    ∙ joined may_ask still (λ k. nodes_upto g test level (from + cut (to - from) count k)) before after found whole ∙ ap (nodes_upto g test level) last
 
 -- the first worker finds the state that is walked from
 pub rooted : {A : Type 0} (may_ask : A → Type 0) (still : A → A → Type 0) (s : StateFields) (passes : Test) (n : ℕ) (before after : List (Walker A)) → 1 ≤ length after →

@@ -1,5 +1,5 @@
 -- What the nodes of the levels lead to.
-use Rattle.std.proofs.Common.{◌≡◌, ◌∙◌, sym, ℕ, zero, suc, ◌+◌, ◌-◌, ◌<◌, ◌≤◌, Bool, true, false, cond, ◌||◌, ◌&&◌, ◌==◌, nat_lt, ◌⊎◌, inl, inr, List, [], ◌∷◌, ◌++◌, length, get_or, Some, None, arith, refl, ap, subst, map, if◌then◌else◌}
+use Rattle.std.proofs.Common.{◌≡◌, ◌∙◌, sym, ℕ, zero, suc, ◌-◌, ◌<◌, ◌≤◌, Bool, true, false, cond, ◌||◌, ◌&&◌, ◌==◌, nat_lt, ◌⊎◌, inl, inr, List, [], ◌∷◌, ◌++◌, length, get_or, Some, None, arith, refl, ap, subst, map, if◌then◌else◌}
 use Rattle.plain_lemmas.proofs.Places.{Among-get_or, Among-All}
 use Rattle.plain_lemmas.proofs.Tests.{bool_cases, not_lt, lt_from}
 use Rattle.std.specs.List.{filter_map, enumerate_from, All}
@@ -27,7 +27,7 @@ use Rattle.pareto_front.specs.declared.node.Node.{Node}
 use Rattle.pareto_front.specs.Covers.{uncovered}
 use Rattle.front_walk.specs.declared.links.Link.{Link}
 use Rattle.front_walk.specs.Nodes.{IsNode, child_by, children_by, nodes_by, goes_and_passes, nodes_at, link_of, actions_to, Climbs, sooner_of, soonest_from, soonest_of}
-use Rattle.front_walk.proofs.Tied.{tied, Looks, placed-above, stands-for, nodes-next}
+use Rattle.front_walk.proofs.Tied.{tied, Looks, placed-above, placed-below, stands-for, nodes-next}
 use Rattle.prefix_fronts.proofs.Best.{sooner_trans}
 
 -- nodes are children of nodes
@@ -37,11 +37,6 @@ Among-uncovered m ns h =
     let r = map-Among (λ (p : ℕ × Node). p.1) m _ h in
     let f = filter-Among (λ (p : ℕ × Node). _) r.0 (enumerate_from 0 ns) r.1 in
     subst (λ z. Among z ns) r.2 (placed-above 0 r.0.0 r.0.1 ns f.0).1
-
-placed-below : {X : Type 0} (n i : ℕ) (x : X) (xs : List X) → Among (i, x) (enumerate_from n xs) → i < n + length xs
-placed-below n i x [] h = absurd h
-placed-below n i x (y ∷ xs) (inl e) = omega (arith, ap (λ p. p.0) e)
-placed-below n i x (y ∷ xs) (inr h) = omega (arith, placed-below (n + 1) i x xs h)
 
 child_parent : (g : SettingsFields) (t : StateFields → Action → Bool) (i : ℕ) (n m : Node) (acts : List Action) → Among m (filter_map (child_by g t i n) acts) → m.parent ≡ i
 unfolding child_by

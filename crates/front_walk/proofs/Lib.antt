@@ -5,3 +5,4 @@ pub mod Leading
 pub mod Passing
 pub mod Stacks
 pub mod Tied
+pub mod Turns

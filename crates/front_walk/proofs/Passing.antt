@@ -1,13 +1,13 @@
 -- What the tests ask of states keeps what a walk asks of a test.
-use Rattle.std.proofs.Common.{ℕ, Bool, true, false, ◌≡◌, ◌≤◌, ◌+◌, ◌*◌, ◌/◌, ◌||◌, nat_le, nat_lt, min, refl, sym, arith, subst, if◌then◌else◌}
-use Rattle.plain_lemmas.proofs.Tests.{eq_from, le_from, le_to, or_left}
+use Rattle.std.proofs.Common.{ℕ, Bool, true, false, ◌≡◌, ◌≤◌, ◌+◌, ◌*◌, ◌||◌, nat_le, nat_lt, min, refl, sym, arith, subst, if◌then◌else◌}
+use Rattle.plain_lemmas.proofs.Tests.{eq_from, le_from, le_to}
 use Rattle.action_table.specs.declared.action.Action.{Action}
 use Rattle.action_table.specs.declared.action.Action.TheVariants.{Groundwork}
 use Rattle.action_table.specs.Table.{row_of}
 use Rattle.craft_numbers.specs.Gains.{progress_gain_of}
 use Rattle.craft_state.specs.Craft.{StateFields}
 use Rattle.craft_settings.specs.Ranges.{SettingsFields}
-use Rattle.step_rules.specs.Step.{step_of, progress_efficiency, progress_after}
+use Rattle.step_rules.specs.Step.{step_of, progress_efficiency}
 use Rattle.relaxed_moves.proofs.Order.{progress_gain-more}
 use Rattle.admissible.proofs.Limits.{step-parts}
 use Rattle.prefix_fronts.specs.Prefix.{AreLimits}

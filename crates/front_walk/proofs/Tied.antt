@@ -107,6 +107,11 @@ placed-above n i x [] h = absurd h
 placed-above n i x (y ∷ xs) (inl e) = (omega (arith, ap (λ p. p.0) e), inl (ap (λ p. p.1) e))
 placed-above n i x (y ∷ xs) (inr h) = let r = placed-above (n + 1) i x xs h in (omega (arith, r.0), inr r.1)
 
+pub placed-below : {X : Type 0} (n i : ℕ) (x : X) (xs : List X) → Among (i, x) (enumerate_from n xs) → i < n + length xs
+placed-below n i x [] h = absurd h
+placed-below n i x (y ∷ xs) (inl e) = omega (arith, ap (λ p. p.0) e)
+placed-below n i x (y ∷ xs) (inr h) = omega (arith, placed-below (n + 1) i x xs h)
+
 pub placed-order : {X : Type 0} (r : X → X → Bool) (n : ℕ) (xs : List X) (i j : ℕ) (x y : X) → Ordered r xs → Among (i, x) (enumerate_from n xs) → Among (j, y) (enumerate_from n xs) →
     i < j → r x y ≡ true
 placed-order r n [] i j x y o a b h = absurd a
@@ -126,15 +131,15 @@ pub any-same : {X : Type 0} (t u : X → Bool) (xs : List X) → ((x : X) → Am
 any-same t u [] same = refl
 any-same t u (x ∷ xs) same = λ j. same x (inl refl) j || any-same t u xs (λ y h. same y (inr h)) j
 
-any-enumerate : {X : Type 0} (h : X → Bool) (n : ℕ) (xs : List X) → list_any (λ (q : ℕ × X). h q.1) (enumerate_from n xs) ≡ list_any h xs
+pub any-enumerate : {X : Type 0} (h : X → Bool) (n : ℕ) (xs : List X) → list_any (λ (q : ℕ × X). h q.1) (enumerate_from n xs) ≡ list_any h xs
 any-enumerate h n [] = refl
 any-enumerate h n (x ∷ xs) = ap (λ b. h x || b) (any-enumerate h (n + 1) xs)
 
-any-map : {X Y : Type 0} (h : Y → Bool) (f : X → Y) (xs : List X) → list_any h (map f xs) ≡ list_any (λ x. h (f x)) xs
+pub any-map : {X Y : Type 0} (h : Y → Bool) (f : X → Y) (xs : List X) → list_any h (map f xs) ≡ list_any (λ x. h (f x)) xs
 any-map h f [] = refl
 any-map h f (x ∷ xs) = ap (λ b. h (f x) || b) (any-map h f xs)
 
-filter-enumerate : {X : Type 0} (v : X → Bool) (n : ℕ) (xs : List X) → map (λ (p : ℕ × X). p.1) (filter (λ (p : ℕ × X). v p.1) (enumerate_from n xs)) ≡ filter v xs
+pub filter-enumerate : {X : Type 0} (v : X → Bool) (n : ℕ) (xs : List X) → map (λ (p : ℕ × X). p.1) (filter (λ (p : ℕ × X). v p.1) (enumerate_from n xs)) ≡ filter v xs
 filter-enumerate v n [] = refl
 filter-enumerate {X} v n (x ∷ xs) =
     elim (v x) as (λ b. map (λ (p : ℕ × X). p.1) (cond b ((n, x) ∷ filter (λ (p : ℕ × X). v p.1) (enumerate_from (n + 1) xs)) (filter (λ (p : ℕ × X). v p.1) (enumerate_from (n + 1) xs))) ≡ cond b (x ∷ filter v xs) (filter v xs)) [
@@ -142,7 +147,7 @@ filter-enumerate {X} v n (x ∷ xs) =
       | false ↦ filter-enumerate v (n + 1) xs
     ]
 
-map-filter : {X Y : Type 0} (f : X → Y) (u : Y → Bool) (xs : List X) → map f (filter (λ x. u (f x)) xs) ≡ filter u (map f xs)
+pub map-filter : {X Y : Type 0} (f : X → Y) (u : Y → Bool) (xs : List X) → map f (filter (λ x. u (f x)) xs) ≡ filter u (map f xs)
 map-filter f u [] = refl
 map-filter f u (x ∷ xs) =
     elim (u (f x)) as (λ b. map f (cond b (x ∷ filter (λ y. u (f y)) xs) (filter (λ y. u (f y)) xs)) ≡ cond b (f x ∷ filter u (map f xs)) (filter u (map f xs))) [
@@ -155,19 +160,25 @@ pub Ordered-unmap : {X Y : Type 0} (s : Y → Y → Bool) (f : X → Y) (xs : Li
 Ordered-unmap s f [] h = tt
 Ordered-unmap s f (x ∷ xs) h = (λ y m. h.0 (f y) (Among-map f y xs m), Ordered-unmap s f xs h.1)
 
-place_test : (s : StateFields) (ps : List Prefix) (ns : List Node) → Ordered is_before (map (tied s ps) ns) → (i j : ℕ) (x y : Node) →
-    Among (i, x) (enumerate_from 0 ns) → Among (j, y) (enumerate_from 0 ns) → nat_lt i j ≡ precedes (tied s ps x).actions (tied s ps y).actions
-place_test s ps ns ordered i j x y a b =
-    let r : Node → Node → Bool = λ x y. precedes (tied s ps x).actions (tied s ps y).actions in
-    let o : Ordered r ns = Ordered-unmap is_before (tied s ps) ns ordered in
-    same_answer _ _ (λ h. placed-order r 0 ns i j x y o a b (lt_from i j h))
+-- places are as the order
+pub place-test : {X : Type 0} (r : X → X → Bool) (irreflexive : (x : X) → r x x ≡ false) (transitive : (x y z : X) → r x y ≡ true → r y z ≡ true → r x z ≡ true)
+    (xs : List X) → Ordered r xs → (i j : ℕ) (x y : X) → Among (i, x) (enumerate_from 0 xs) → Among (j, y) (enumerate_from 0 xs) → nat_lt i j ≡ r x y
+place-test {X} r irreflexive transitive xs ordered i j x y a b =
+    same_answer _ _ (λ h. placed-order r 0 xs i j x y ordered a b (lt_from i j h))
     (λ h. elim (ways i j) [
       | inl below ↦ lt_to i j below
       | inr rest ↦ elim rest [
-        | inl equal ↦ absurd (clash (subst (λ (z : Node). precedes (tied s ps z).actions (tied s ps y).actions ≡ true) (placed-same 0 ns i j x y a b equal) h) (precedes-irreflexive (tied s ps y).actions))
-        | inr above ↦ absurd (clash (precedes-transitive (tied s ps x).actions (tied s ps y).actions (tied s ps x).actions h (placed-order r 0 ns j i y x o b a above)) (precedes-irreflexive (tied s ps x).actions))
+        | inl equal ↦ absurd (clash (subst (λ (z : X). r z y ≡ true) (placed-same 0 xs i j x y a b equal) h) (irreflexive y))
+        | inr above ↦ absurd (clash (transitive x y x h (placed-order r 0 xs j i y x ordered b a above)) (irreflexive x))
       ]
     ])
+
+-- the nodes of a list whose prefixes are in order
+place-precedes : (s : StateFields) (ps : List Prefix) (ns : List Node) → Ordered is_before (map (tied s ps) ns) → (i j : ℕ) (x y : Node) →
+    Among (i, x) (enumerate_from 0 ns) → Among (j, y) (enumerate_from 0 ns) → nat_lt i j ≡ precedes (tied s ps x).actions (tied s ps y).actions
+place-precedes s ps ns ordered =
+    place-test (λ x y. precedes (tied s ps x).actions (tied s ps y).actions) (λ x. precedes-irreflexive (tied s ps x).actions)
+    (λ x y z. precedes-transitive (tied s ps x).actions (tied s ps y).actions (tied s ps z).actions) ns (Ordered-unmap is_before (tied s ps) ns ordered)
 
 covers-tied : (s : StateFields) (ps : List Prefix) (i j : ℕ) (x y : Node) → nat_lt i j ≡ precedes (tied s ps x).actions (tied s ps y).actions → covers i x j y ≡ dominates (tied s ps x) (tied s ps y)
 unfolding covers dominates
@@ -182,7 +193,7 @@ uncovered-tied s ps ns ordered =
     let e : List (ℕ × Node) = enumerate_from 0 ns in
     let u : Prefix → Bool = undominated (map f ns) in
     let same : (p : ℕ × Node) → Among p e → not (is_covered ns p.0 p.1) ≡ u (f p.1) = λ p m.
-    ap not (any-same (λ (q : ℕ × Node). covers q.0 q.1 p.0 p.1) (λ (q : ℕ × Node). dominates (f q.1) (f p.1)) e (λ q k. covers-tied s ps q.0 p.0 q.1 p.1 (place_test s ps ns ordered q.0 p.0 q.1 p.1 k m))
+    ap not (any-same (λ (q : ℕ × Node). covers q.0 q.1 p.0 p.1) (λ (q : ℕ × Node). dominates (f q.1) (f p.1)) e (λ q k. covers-tied s ps q.0 p.0 q.1 p.1 (place-precedes s ps ns ordered q.0 p.0 q.1 p.1 k m))
     ∙ any-enumerate (λ x. dominates (f x) (f p.1)) 0 ns ∙ sym (any-map (λ q. dominates q (f p.1)) f ns)) in
     ap (λ l. map f (map (λ (p : ℕ × Node). p.1) l)) (filter-same (λ (p : ℕ × Node). not (is_covered ns p.0 p.1)) (λ (p : ℕ × Node). u (f p.1)) e same)
     ∙ ap (map f) (filter-enumerate (λ x. u (f x)) 0 ns) ∙ map-filter f u ns

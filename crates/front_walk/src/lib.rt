@@ -12,6 +12,7 @@ mod endings;
 mod expanding;
 mod levels;
 mod links;
+mod slice;
 mod state_test;
 #[cfg(test)]
 mod tests;

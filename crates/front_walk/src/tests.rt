@@ -1,10 +1,13 @@
-ghost use Rattle.std.specs.Prelude.{◌≡◌, IfOk, length};
+ghost use Rattle.std.specs.Prelude.{◌≡◌, ◌≤◌, IfOk, length};
 ghost use Rattle.front_walk.specs.Passing.{lets};
 ghost use Rattle.craft_settings.specs.Ranges.{IsFromTo};
 
 use super::*;
+use crate::expanding::{expand, expand_by};
+use crate::walk::Stage;
 use craft_settings::Settings;
 use craft_state::State;
+use pareto_front::PackedNode;
 use std::test::Fail;
 use step_rules::{counted, is_complete, is_final};
 use test_crafts::{EASY, FOUR_STEPS};
@@ -332,5 +335,68 @@ fn finds_the_same_with_more_workers(rt: HostRuntime) -> Result<(), Fail> {
     let gate = Meeting::new();
     assert!(rt; finds(&rt, rt.alloc(), &gate, 2, &case)?);
     assert!(rt; gate.have_met());
+    Ok(())
+}
+
+fn are_same(some: &[PackedNode], others: &[PackedNode]) -> bool {
+    if some.len() != others.len() {
+        return false;
+    }
+    for (one, other) in some.iter().zip(others) {
+        if one.node() != other.node() {
+            return false;
+        }
+    }
+    true
+}
+
+// How many nodes the last level below a length leads to, if they are the same in slices of so many nodes.
+#[tactic(auto, using(crate::proofs::Passing::lets_limits))]
+fn expanded_alike(
+    rt: &(impl Threads + Sync),
+    alloc: Global,
+    test: &Reach,
+    n: u32,
+    span: usize,
+) -> Result<Option<usize>, WantMemory>
+    requires some { 1 ≤ n }
+    requires span { 1 ≤ span }
+{
+    let g = &test.settings;
+    let Some(from) = open_after(g, &[Action::BasicTouch]) else {
+        return Ok(None);
+    };
+    let walk = Walk {
+        g,
+        from: &from,
+        target: 0,
+        test,
+    };
+    let mut crew = Crew::new(rt, &FreeGate, walkers(alloc, 2)?);
+    let levels = levels_below(&mut crew, alloc, &walk, n, false)?;
+    let stage = Stage {
+        walk: &walk,
+        left: 1,
+        nodes: &levels.last,
+    };
+    let whole = expand(&mut crew, alloc, &stage)?;
+    let sliced = expand_by(&mut crew, alloc, &stage, span)?;
+    if are_same(&whole, &sliced) {
+        Ok(Some(whole.len()))
+    } else {
+        Ok(None)
+    }
+}
+
+// The 24 nodes of two actions more are expanded at once, in twelve slices, and in four, of which the last is shorter.
+#[test]
+fn expands_alike(rt: HostRuntime) -> Result<(), Fail> {
+    let test = Reach {
+        settings: GROUND,
+        all: true,
+    };
+    for span in [2, 7] {
+        assert_eq!(rt; expanded_alike(&rt, rt.alloc(), &test, 3, span)?, Some(101));
+    }
     Ok(())
 }

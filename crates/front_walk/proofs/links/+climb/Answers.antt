@@ -1,4 +1,4 @@
-use Rattle.std.proofs.Common.{◌≤◌, arith}
+use Rattle.std.proofs.Common.{arith}
 use Rattle.front_walk.proofs.Stacks.{climb-step}
 use Rattle.front_walk.proofs.links.+climb.Goals as goal
 
