@@ -1,5 +1,5 @@
 -- What a search for the best macro looks for, and how far it has come.
-use Rattle.std.specs.Prelude.{ℕ, List, ◌∷◌, Option, ◌≡◌, ◌≢◌, ◌≤◌, Bool, ◌-◌, ◌||◌, nat_le, length}
+use Rattle.std.specs.Prelude.{ℕ, List, ◌++◌, Option, ◌≡◌, ◌≢◌, ◌≤◌, Bool, ◌-◌, ◌||◌, nat_le, length, All}
 use Rattle.std.specs.List.{list_any}
 use Rattle.action_table.specs.Table.{all_actions}
 use Rattle.craft_state.specs.Craft.{StateFields}
@@ -9,6 +9,8 @@ use Rattle.front_walk.specs.Nodes.{goes_and_passes}
 use Rattle.priced_bound.specs.Bounds.{BoundFields, promise_in, all_pass}
 use Rattle.priced_bound.specs.Reckoned.{AreReckoned}
 use Rattle.priced_bound.specs.declared.reckoning.TheConstants.{MOST_LEFT}
+use Rattle.quality_sweep.specs.Ahead.{IsGreatestQualityFrom}
+use Rattle.best_search.specs.declared.ceiling.Highest.{Highest}
 
 -- a table of the craft, by prices and units that serve
 pub record IsTable (g : SettingsFields) (b : BoundFields) : Type 0 where
@@ -24,9 +26,14 @@ pub record IsFreeTable (g : SettingsFields) (b : BoundFields) : Type 0 where
 abbrev pub free_promise : BoundFields → StateFields → Option ℕ
 free_promise b s = promise_in b s MOST_LEFT
 
--- a state passes the test of a table and those of others
-abbrev pub test_of : (target : ℕ) → BoundFields → List BoundFields → Test
-test_of target free others = all_pass (free ∷ others) target
+-- the greatest quality from a state on, none where no list completes the craft from there, and tables of the craft
+pub record IsHighest (g : SettingsFields) (from : StateFields) (highest : Highest) : Type 0 where
+  pub greatest : IsGreatestQualityFrom g from highest.quality
+  pub tables : All (IsTable g) highest.filled.items
+
+-- a state passes the tests of these tables, and of those
+abbrev pub test_of : (target : ℕ) → (these those : List BoundFields) → Test
+test_of target these those = all_pass (these ++ those) target
 
 -- each list that completes the craft from a state with this quality has at least n actions
 abbrev pub TakesAtLeast : SettingsFields → StateFields → (target n : ℕ) → Type 0

@@ -12,12 +12,12 @@ use front_walk::StateTest;
 use priced_bound::{PricedBound, all_reach};
 use step_rules::{check, is_final, step};
 
-/// What is looked for, and the tables that tell how far each state can still come, beside that by which steps are free.
-#[derive(Drop)]
+/// What is looked for, and the tables that tell how far each state can still come, beside those of the goal.
+#[derive(Clone, Copy)]
 pub(crate) struct Aim<'a> {
     pub(crate) goal: Goal<'a>,
-    pub(crate) tables: Vec<PricedBound>,
-    ghost of: { All (IsTable goal.g.now) tables.items },
+    pub(crate) tables: &'a [PricedBound],
+    ghost of: { All (IsTable goal.g.now) tables.now },
 }
 
 impl StateTest for Aim<'_> {
@@ -28,7 +28,7 @@ impl StateTest for Aim<'_> {
 
     ghost craft = { λ a. a.goal.g.now };
 
-    ghost passes = { λ a. test_of a.goal.target a.goal.free.now a.tables.items };
+    ghost passes = { λ a. test_of a.goal.target a.tables.now a.goal.filled.now };
 
     ghost allows = { λ _ _. true };
 
@@ -37,8 +37,8 @@ impl StateTest for Aim<'_> {
     ghost still_asks = { λ _ _. ⊤ };
 
     fn passes(&self, _asker: &mut (), left: u32, s: &State) -> bool {
-        all_reach(&self.tables, self.goal.target, left, s)
-            && self.goal.free.reaches(self.goal.target, left, s)
+        all_reach(self.tables, self.goal.target, left, s)
+            && all_reach(self.goal.filled, self.goal.target, left, s)
     }
 
     ghost goes_on_allowed = { λ _ _ _ _ _ _. refl };
@@ -53,14 +53,14 @@ impl Aim<'_> {
     /// one action.
     pub(crate) fn lets_through(&self, n: u32) -> bool
         ensures { let goal = self.now.goal in
-            result ≡ lets_through goal.g.now goal.from.now (test_of goal.target goal.free.now self.now.tables.items) n }
+            result ≡ lets_through goal.g.now goal.from.now (test_of goal.target self.now.tables.now goal.filled.now) n }
     {
         n <= 1 || self.goes_on(n - 1)
     }
 
     // Whether the craft goes on after some action, and the state passes with so many steps left.
     fn goes_on(&self, left: u32) -> bool
-        ensures { let goal = self.now.goal in let passes = test_of goal.target goal.free.now self.now.tables.items in
+        ensures { let goal = self.now.goal in let passes = test_of goal.target self.now.tables.now goal.filled.now in
             result ≡ list_any (goes_and_passes goal.g.now passes left goal.from.now) all_actions }
     {
         Action::ALL
@@ -71,7 +71,7 @@ impl Aim<'_> {
     // Whether the craft goes on after this action, and the state passes with so many steps left.
     fn leads_on(&self, action: Action, left: u32) -> bool
         ensures { let goal = self.now.goal in
-            result ≡ goes_and_passes goal.g.now (test_of goal.target goal.free.now self.now.tables.items) left goal.from.now action }
+            result ≡ goes_and_passes goal.g.now (test_of goal.target self.now.tables.now goal.filled.now) left goal.from.now action }
     {
         let goal = &self.goal;
         if check(goal.g, goal.from, action).is_err() {

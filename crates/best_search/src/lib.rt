@@ -19,7 +19,7 @@ mod tables;
 mod tests;
 
 use action_table::{Action, WantMemory};
-use ceiling::greatest;
+use ceiling::highest_quality;
 use craft_settings::Settings;
 use craft_state::State;
 use front_walk::Walker;
@@ -29,7 +29,7 @@ pub use parts::{best_with_quality, quality_from};
 use std::alloc::Global;
 use std::thread::Threads;
 use step_rules::start;
-use tables::free_table;
+use tables::Coarse;
 use worker_gate::{Crew, Gate};
 
 /// `count` workers for a crew that looks for the best macro; a crew has 1 to 64. Errors: only where memory runs out.
@@ -89,16 +89,17 @@ pub fn best_from<R: Threads + Sync, G: Gate>(
         MatchOption r (NothingCompletesFrom g.now from.now) (λ m. IsBestFrom g.now from.now m.items)) }
     ensures as_many { length crew.new.workers ≡ length crew.old.workers }
 {
-    let free = free_table(crew, alloc, g, from)?;
-    let Some(target) = greatest(alloc, g, from, &free)? else {
+    let coarse = Coarse::of_craft(crew, alloc, g, from)?;
+    let found = highest_quality(crew, alloc, g, from, &coarse)?;
+    let Some(target) = found.quality else {
         return Ok(None);
     };
     let goal = Goal {
         g,
         from,
         target,
-        free: &free,
+        filled: &found.filled,
     };
-    let actions = best_of_lengths(crew, alloc, &goal)?;
+    let actions = best_of_lengths(crew, alloc, &goal, coarse)?;
     Ok(Some(actions))
 }

@@ -4,10 +4,10 @@ ghost use Rattle.macro_order.specs.Order.{IsBestFrom};
 ghost use Rattle.prefix_fronts.specs.Prefix.{IsGreatestFrom, IsOpen, IsReachedFrom};
 ghost use Rattle.quality_sweep.specs.Ahead.{IsGreatestQualityFrom};
 
-use crate::ceiling::greatest;
+use crate::ceiling::highest_quality;
 use crate::goal::Goal;
 use crate::lengths::best_of_lengths;
-use crate::tables::{free_table, free_table_below};
+use crate::tables::{Coarse, tables_below};
 use action_table::{Action, WantMemory};
 use craft_settings::Settings;
 use craft_state::State;
@@ -27,8 +27,9 @@ pub fn quality_from<R: Threads + Sync, G, W>(
     requires { IsOpen g.now from.now }
     ensures { IfOk result (IsGreatestQualityFrom g.now from.now) }
 {
-    let free = free_table(crew, alloc, g, from)?;
-    greatest(alloc, g, from, &free)
+    let coarse = Coarse::of_craft(crew, alloc, g, from)?;
+    let found = highest_quality(crew, alloc, g, from, &coarse)?;
+    Ok(found.quality)
 }
 
 /// The best list of actions from a state of the craft that isn't over, as `best_from` has it, where `target` is the
@@ -46,12 +47,13 @@ pub fn best_with_quality<R: Threads + Sync, G: Gate>(
     ensures best { IfOk result (λ m. IsBestFrom g.now from.now m.items) }
     ensures as_many { length crew.new.workers ≡ length crew.old.workers }
 {
-    let free = free_table_below(crew, alloc, g, from, target)?;
+    let coarse = Coarse::of_craft(crew, alloc, g, from)?;
+    let filled = tables_below(crew, alloc, g, from, target)?;
     let goal = Goal {
         g,
         from,
         target,
-        free: &free,
+        filled: &filled,
     };
-    best_of_lengths(crew, alloc, &goal)
+    best_of_lengths(crew, alloc, &goal, coarse)
 }

@@ -1,6 +1,6 @@
 use Rattle.std.proofs.Common.{◌+◌, ◌-◌, ◌≡◌, ◌≤◌, length}
 use Rattle.best_search.specs.Looking.{TakesAtLeast}
-use Rattle.best_search.proofs.lengths.best_of_lengths.Given as goal
+use Rattle.best_search.proofs.lengths.best_of_many.Given as goal
 
 abbrev pub invariant-loop-low : goal.invariant-loop-low
 invariant-loop-low g l = record {

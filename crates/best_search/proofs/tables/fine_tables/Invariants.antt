@@ -3,4 +3,4 @@ use Rattle.best_search.specs.Looking.{IsTable}
 use Rattle.best_search.proofs.tables.fine_tables.Given as goal
 
 abbrev pub invariant-loop-pricing : goal.invariant-loop-pricing
-invariant-loop-pricing g l = All (IsTable l.goal.g.now) l.tables.items
+invariant-loop-pricing g l = All (IsTable l.g) l.tables.items
