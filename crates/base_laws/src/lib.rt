@@ -10,6 +10,7 @@ ghost use Rattle.craft_settings.specs.declared.reader.TheConstants.{MAX_LENGTH};
 ghost use Rattle.run_io.specs.declared.reading.TheConstants.{READ_MOST};
 ghost use Rattle.step_rules.specs.declared.legality.TheConstants.{MOST_STEPS};
 ghost use Rattle.stat_sweep.specs.declared.TheConstants.{MOST_BASE};
+ghost use Rattle.quality_pass.specs.declared.TheConstants.{LAST_FILLED};
 ghost use Rattle.front_check.specs.declared.checker.TheConstants.{MOST_TEXT};
 ghost use Rattle.certificate_text.specs.declared.numbers.TheConstants.{MOST_NUMBER};
 
@@ -19,11 +20,13 @@ pub fn order_law()
 {}
 
 /// No macro has more than 272 steps; the tables of bounds have budgets up to 1378 and up to 63 moves, and 1100 relaxed
-/// states in a bucket; a settings file has at most 65536 bytes, and one byte more is read of an input.
+/// states in a bucket, and the budgets up to 63 are filled before a search; a settings file has at most 65536 bytes, and
+/// one byte more is read of an input.
 pub fn numbers_law()
     ensures steps { MOST_STEPS ≡ 272 }
     ensures budget { MOST_BUDGET ≡ 1378 }
     ensures moves { MOST_MOVES ≡ 63 }
+    ensures filled { LAST_FILLED ≡ 63 }
     ensures states { BUCKET_STATES ≡ 1100 }
     ensures length { MAX_LENGTH ≡ 65536 }
     ensures read { READ_MOST ≡ 65537 }

@@ -23,7 +23,7 @@ use Rattle.best_search.specs.Looking.{TakesAtLeast}
 use Rattle.best_search.proofs.Backward.{back}
 use Rattle.best_search.proofs.Taking.{passes-back}
 use Rattle.level_search.specs.Answer.{HasQuality, Survives}
-use Rattle.level_search.specs.Reaching.{reaches}
+use Rattle.level_search.specs.Reaching.{bounds_reach}
 use Rattle.level_search.proofs.Reached.{are_limits}
 
 pub completes-best : (g : SettingsFields) (m : List Action) → IsBest g m → Completes g (start_of g) m
@@ -86,21 +86,21 @@ pub length-best : (g : SettingsFields) (grain target : ℕ) (m : List Action) �
     (1 ≤ length m) × (length m ≤ measure (start_of g) / 4)
 length-best g grain target m settings low best greatest reached =
     let own = reached-best g target m best greatest reached in
-    let r = reached-at g (start_of g) target (reaches g grain target) own.0 (start-open g settings) (are_limits g grain target low) greatest in
+    let r = reached-at g (start_of g) target (bounds_reach g grain target) own.0 (start-open g settings) (are_limits g grain target low) greatest in
     let long = ap length own.1 in
     (omega (arith, r.0, long), omega (arith, r.1, long))
 
 -- each state on the way passes
 passes-before : (g : SettingsFields) (grain target : ℕ) (m : List Action) (k : ℕ) (q : Prefix) → AreSettings g → 1 ≤ grain → (done : Completes g (start_of g) m) → target ≤ counted g done.last →
-    Among q (prefixes g (start_of g) k) → take k m ≡ q.actions → reaches g grain target (length m - k) q.state ≡ true
+    Among q (prefixes g (start_of g) k) → take k m ≡ q.actions → bounds_reach g grain target (length m - k) q.state ≡ true
 passes-before g grain target m k q settings low done enough here cut =
     let facts = prefix-facts g (start_of g) (start-open g settings) k q here in
     let begun : run_of g (start_of g) (take k m) ≡ Some q.state = ap (run_of g (start_of g)) cut ∙ facts.ran in
     let rest : run_of g q.state (drop k m) ≡ Some done.last =
     sym (run_of-append g (start_of g) q.state (take k m) (drop k m) begun) ∙ ap (run_of g (start_of g)) (take-append-drop k m) ∙ done.ran
     in
-    subst (λ (n : ℕ). reaches g grain target n q.state ≡ true) (length-drop k m)
-    (back g done.last (λ j s. reaches g grain target j s ≡ true) (passes-back g done.last target (reaches g grain target) (are_limits g grain target low) enough) done.complete
+    subst (λ (n : ℕ). bounds_reach g grain target n q.state ≡ true) (length-drop k m)
+    (back g done.last (λ j s. bounds_reach g grain target j s ≡ true) (passes-back g done.last target (bounds_reach g grain target) (are_limits g grain target low) enough) done.complete
     q.state (drop k m) facts.within facts.live rest)
 
 in-front : (g : SettingsFields) (s : StateFields) (passes : Test) (n k : ℕ) (q : Prefix) → Among q (prefixes g s k) → undominated (prefixes g s k) q ≡ true → passes (n - k) q.state ≡ true →
@@ -116,4 +116,4 @@ inside-best g grain target m settings low best quality k below =
     let says = score-says g m (run_of g (start_of g) m) quality.0 quality.1 in
     let done : Completes g (start_of g) m = record { last = says.last; ran = says.ran; complete = says.full } in
     let pass = passes-before g grain target m k kept.0 settings low done (omega (arith, says.quality, quality.2)) both.0 kept.2 in
-    (kept.0, Among-Contains _ kept.0 (in-front g (start_of g) (reaches g grain target) (length m) k kept.0 both.0 both.1 pass), kept.2)
+    (kept.0, Among-Contains _ kept.0 (in-front g (start_of g) (bounds_reach g grain target) (length m) k kept.0 both.0 both.1 pass), kept.2)

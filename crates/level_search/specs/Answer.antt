@@ -10,7 +10,7 @@ use Rattle.relaxed_moves.specs.Optimum.{option_le, within_of}
 use Rattle.macro_order.specs.declared.scores.Score.{Score}
 use Rattle.macro_order.specs.Order.{score_of}
 use Rattle.prefix_fronts.specs.Prefix.{front, IsListOf}
-use Rattle.level_search.specs.Reaching.{reaches}
+use Rattle.level_search.specs.Reaching.{bounds_reach}
 
 -- the macro completes the craft with this quality
 abbrev pub HasQuality : SettingsFields → List Action → ℕ → Type 0
@@ -19,7 +19,7 @@ HasQuality g m quality = (s : Score) × (score_of g m ≡ Some s) × (s.quality 
 -- each proper prefix of the macro is among the survivors of its length
 abbrev pub Survives : SettingsFields → (grain target : ℕ) → List Action → Type 0
 Survives g grain target m =
-    (k : ℕ) → k < length m → IsListOf (take k m) (front g (start_of g) (reaches g grain target) (length m) k)
+    (k : ℕ) → k < length m → IsListOf (take k m) (front g (start_of g) (bounds_reach g grain target) (length m) k)
 
 -- on the way of a complete legal macro, after each action but the last, the limit within the actions that are left
 -- is at least the macro's quality

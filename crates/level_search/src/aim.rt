@@ -4,7 +4,7 @@ ghost use Rattle.step_rules.specs.Legality.{IsWithin};
 ghost use Rattle.relaxed_moves.specs.Budget.{potential_of, start_potential_of};
 ghost use Rattle.relaxed_moves.specs.Optimum.{is_enough};
 ghost use Rattle.relaxed_moves.specs.Scales.{IsScale};
-ghost use Rattle.level_search.specs.Reaching.{reaches};
+ghost use Rattle.level_search.specs.Reaching.{bounds_reach};
 ghost use Rattle.level_search.specs.Searching.{IsSearcherOf, StillSearches, HasSeen};
 
 use crate::searcher::Searcher;
@@ -41,7 +41,7 @@ impl StateTest for Aim<'_> {
 
     ghost craft = { λ t. t.g.now };
 
-    ghost passes = { λ t. reaches t.g.now t.grain t.target };
+    ghost passes = { λ t. bounds_reach t.g.now t.grain t.target };
 
     ghost allows = { λ t s. nat_le (potential_of t.g.now s) (start_potential_of t.g.now) };
 
@@ -50,7 +50,7 @@ impl StateTest for Aim<'_> {
     ghost still_asks = { StillSearches };
 
     fn passes(&self, asker: &mut Searcher, left: u32, s: &State) -> bool {
-        self.reaches(asker, left, s)
+        self.bounds_reach(asker, left, s)
     }
 
     ghost goes_on_allowed = { λ t. potential_stays t.g.now };
@@ -63,14 +63,14 @@ impl StateTest for Aim<'_> {
 impl Aim<'_> {
     // Whether a state may still lead to the target with so many actions left: before the first step always. The bound by
     // steps is asked first, since its table is small.
-    #[tactic(auto, unfolding(crate::specs::Reaching::reaches))]
-    fn reaches(&self, searcher: &mut Searcher, left: u32, s: &State) -> bool
+    #[tactic(auto, unfolding(crate::specs::Reaching::bounds_reach))]
+    fn bounds_reach(&self, searcher: &mut Searcher, left: u32, s: &State) -> bool
         requires of { IsSearcherOf self.now.quality.now self.now.steps.now searcher.old }
         requires within { IsWithin self.now.g.now s.now }
         requires potential { potential_of self.now.g.now s.now ≤ start_potential_of self.now.g.now }
         ensures of { IsSearcherOf self.now.quality.now self.now.steps.now searcher.new }
         ensures still { StillSearches searcher.old searcher.new }
-        ensures value { result ≡ reaches self.now.g.now self.now.grain self.now.target left s.now }
+        ensures value { result ≡ bounds_reach self.now.g.now self.now.grain self.now.target left s.now }
     {
         s.effects.first
             || self.is_enough(within_by(self.steps, &mut searcher.steps, &self.scale, s, left))

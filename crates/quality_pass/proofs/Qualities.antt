@@ -14,7 +14,7 @@ use Rattle.macro_order.specs.Order.{scored, score_of, seconds_of}
 use Rattle.prefix_fronts.specs.Prefix.{IsGreatest, IsReachedFrom}
 use Rattle.quality_sweep.specs.Ahead.{IsGreatestQualityFrom}
 use Rattle.quality_sweep.proofs.Completing.{over_nil}
-use Rattle.quality_pass.specs.Answer.{IsGreatestQuality, AreLimited}
+use Rattle.quality_pass.specs.Answer.{IsGreatestQuality, LimitsHold}
 
 reached-whole : (g : SettingsFields) (q : ℕ) → IsReachedFrom g (start_of g) q → IsReached g q
 reached-whole g q reached = record {
@@ -39,7 +39,7 @@ at_most-greatest g q b r most =
     subst (λ (n : ℕ). n ≤ b) r.same (most m whole says)
 
 -- each live prefix of a complete macro has a limit of at least its quality
-pub limited : (g : SettingsFields) (grain : ℕ) → AreSettings g → 1 ≤ grain → AreLimited g grain
+pub limited : (g : SettingsFields) (grain : ℕ) → AreSettings g → 1 ≤ grain → LimitsHold g grain
 limited g grain settings low m whole k s some inside ran =
     let begun : 1 ≤ length (take k m) = omega (arith, length-take-le k m (omega arith)) in
     let rest : run_of g s (drop k m) ≡ Some whole.last =

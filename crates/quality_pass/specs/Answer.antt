@@ -21,8 +21,8 @@ IsGreatestQuality g None = NothingCompletes g
 IsGreatestQuality g (Some q) = IsReached g q × IsGreatest g q
 
 -- no complete legal macro has more quality than the limit of any of its own proper prefixes of an action or more
-abbrev pub AreLimited : SettingsFields → ℕ → Type 0
-AreLimited g grain = (m : List Action) (whole : Completes g (start_of g) m) (k : ℕ) (s : StateFields) → 1 ≤ k → k < length m
+abbrev pub LimitsHold : SettingsFields → ℕ → Type 0
+LimitsHold g grain = (m : List Action) (whole : Completes g (start_of g) m) (k : ℕ) (s : StateFields) → 1 ≤ k → k < length m
     → run_of g (start_of g) (take k m) ≡ Some s → option_le (Some (counted g whole.last)) (limit_of g grain s)
 
 -- each seat has seen what the seat at its place had seen
@@ -41,10 +41,6 @@ AllSeeBudget grain budget seats =
 -- the same of each budget up to one
 abbrev pub AllSeeBudgets : ℕ → ℕ → List (SeatFields QualityTruth) → Type 0
 AllSeeBudgets grain most seats = (budget : ℕ) → budget ≤ most → AllSeeBudget grain budget seats
-
--- up to which budget the table is filled beforehand
-abbrev pub last_filled : ℕ
-last_filled = 63
 
 -- the floor of each seat is this quality, where there is one
 abbrev pub HaveFloor : Option ℕ → List (SeatFields QualityTruth) → Type 0

@@ -4,7 +4,8 @@
 ghost use Rattle.std.specs.Prelude.{◌≡◌, ◌≤◌, Some, min, All, IfOk, length};
 ghost use Rattle.seat_tables.specs.Seats.{IsOf, StillSees};
 ghost use Rattle.relaxed_moves.specs.Budget.{start_potential_of};
-ghost use Rattle.quality_pass.specs.Answer.{IsGreatestQuality, AreLimited, AllStillSee, AllSeeBudgets, HaveFloor, last_filled};
+ghost use Rattle.quality_pass.specs.Answer.{IsGreatestQuality, LimitsHold, AllStillSee, AllSeeBudgets, HaveFloor};
+ghost use Rattle.quality_pass.specs.declared.TheConstants.{LAST_FILLED};
 
 #[cfg(test)]
 mod tests;
@@ -20,8 +21,8 @@ use std::thread::Threads;
 use step_rules::start;
 use worker_gate::{Crew, Gate};
 
-// Up to which budget the table is filled before the search.
-const LAST_FILLED: u32 = 63;
+/// Up to which budget the table is filled before the search.
+pub const LAST_FILLED: u32 = 63;
 
 /// The greatest quality that counts of a complete legal macro, or None where no legal macro completes the craft, and
 /// the seats, in order.
@@ -50,8 +51,8 @@ pub fn best_quality<G: Gate>(
     ensures of { IfOk result (λ made. All (IsOf shared.now) made.1.items) }
     ensures still { IfOk result (λ made. AllStillSee seats.items made.1.items) }
     ensures floor { IfOk result (λ made. HaveFloor made.0 made.1.items) }
-    ensures filled { IfOk result (λ made. AllSeeBudgets grain (min last_filled (start_potential_of g.now)) made.1.items) }
-    ensures limits { IfOk result (λ _. AreLimited g.now grain) }
+    ensures filled { IfOk result (λ made. AllSeeBudgets grain (min LAST_FILLED (start_potential_of g.now)) made.1.items) }
+    ensures limits { IfOk result (λ _. LimitsHold g.now grain) }
 {
     let mut seats = seats;
     fill_budgets(rt, shared, &mut seats, gate);
@@ -75,7 +76,7 @@ fn fill_budgets<G: Gate>(
     ensures of { All (IsOf shared.now) seats.new }
     ensures still { AllStillSee seats.old seats.new }
     ensures filled { let truth = shared.now.truth in
-        AllSeeBudgets truth.grain (min last_filled (start_potential_of truth.g)) seats.new }
+        AllSeeBudgets truth.grain (min LAST_FILLED (start_potential_of truth.g)) seats.new }
 {
     let last = LAST_FILLED.min(start_potential(&shared.truth().g));
     for budget in 0..last + 1 {

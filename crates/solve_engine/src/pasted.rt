@@ -14,8 +14,8 @@ use std::alloc::Global;
 /// A craft, and a macro for it.
 #[derive(Drop)]
 pub(crate) struct Pasted {
-    pub craft: Settings,
-    pub actions: Vec<Action>,
+    pub(crate) craft: Settings,
+    pub(crate) actions: Vec<Action>,
 }
 
 /// The settings and the macro of an input. It halts where either is refused, and for want of memory.

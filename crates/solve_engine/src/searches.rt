@@ -23,10 +23,10 @@ use worker_gate::Gate;
 /// The best macro with the sizes of its fronts, and a seat at the table of quality bounds.
 #[derive(Drop)]
 pub(crate) struct Found {
-    pub actions: Vec<Action>,
-    pub counts: Vec<u64>,
-    pub table: Shared<QualityTruth>,
-    pub seat: Seat<QualityTruth>,
+    pub(crate) actions: Vec<Action>,
+    pub(crate) counts: Vec<u64>,
+    pub(crate) table: Shared<QualityTruth>,
+    pub(crate) seat: Seat<QualityTruth>,
 }
 
 /// The best macro of a craft, by as many workers and over bounds at the grain that the words name, or None where no

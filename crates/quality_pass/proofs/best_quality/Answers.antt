@@ -4,7 +4,8 @@ use Rattle.craft_settings.specs.Ranges.{SettingsFields, AreSettings}
 use Rattle.relaxed_moves.specs.Budget.{start_potential_of}
 use Rattle.seat_tables.specs.Seats.{SeatFields}
 use Rattle.quality_bound.specs.declared.truth.QualityTruth.{QualityTruth}
-use Rattle.quality_pass.specs.Answer.{AllStillSee, AllSeeBudgets, last_filled}
+use Rattle.quality_pass.specs.Answer.{AllStillSee, AllSeeBudgets}
+use Rattle.quality_pass.specs.declared.TheConstants.{LAST_FILLED}
 use Rattle.quality_pass.proofs.Qualities.{limited}
 use Rattle.quality_pass.proofs.Seats.{all_budgets-still, seats_still-trans}
 use Rattle.quality_pass.proofs.best_quality.Goals as goal
@@ -25,10 +26,10 @@ returns-clause-filled g c =
     let hired : c.new-crew.result.workers ≡ c.fill_budgets.new.seats = c.new-crew.ensures.workers ∙ take_at c.fill_budgets.new.seats _ _ (omega (arith, c.deref_mut.ensures.len)) in
     let offered = c.offer_all.new.crew.workers in
     let rest : AllStillSee c.fill_budgets.new.seats offered = subst (λ (l : List (SeatFields QualityTruth)). AllStillSee l offered) hired c.offer_all.ensures.still in
-    let most = min last_filled (start_potential_of c.args.g.now) in
+    let most = min LAST_FILLED (start_potential_of c.args.g.now) in
     let filled : AllSeeBudgets c.args.grain most c.fill_budgets.new.seats =
     subst (λ (n : ℕ). AllSeeBudgets n most c.fill_budgets.new.seats) c.requires.grain
-    (subst (λ (h : SettingsFields). AllSeeBudgets c.args.shared.now.truth.grain (min last_filled (start_potential_of h)) c.fill_budgets.new.seats) c.requires.same c.fill_budgets.ensures.filled)
+    (subst (λ (h : SettingsFields). AllSeeBudgets c.args.shared.now.truth.grain (min LAST_FILLED (start_potential_of h)) c.fill_budgets.new.seats) c.requires.same c.fill_budgets.ensures.filled)
     in
     subst (λ (l : List (SeatFields QualityTruth)). AllSeeBudgets c.args.grain most l) (sym c.into_workers.ensures)
     (all_budgets-still c.args.grain most c.fill_budgets.new.seats offered (c.offer_all.ensures.as_many ∙ ap length hired) filled rest)
