@@ -25,7 +25,7 @@ const FEW_WORDS: u64 = 6_000_000;
 // A table of fewer words is filled sooner by one thread than by several.
 const WORDS_OF_ONE: u64 = 500_000;
 
-// How many units of progress the coarse table takes at most.
+// How many units of progress the tables of a small craft, and each coarse table, take at most.
 const COARSE_NEED: u32 = 81;
 
 /// A table that is filled soon and tells less.
@@ -48,10 +48,10 @@ impl Coarse {
     ) -> Result<Coarse, WantMemory>
         ensures { IfOk result (λ c. IsTable g.now c.table) }
     {
-        let by = Coarse::reckoning(g);
-        if by.words(by.worth(from, FEW_STEPS)) > FEW_WORDS {
+        if !is_small(g, from) {
             return Coarse::of_more_steps(crew, alloc, g, from);
         }
+        let by = Coarse::reckoning(g);
         let table = table_of(crew, alloc, &by, from, FEW_STEPS)?;
         Ok(Coarse {
             table,
@@ -105,7 +105,13 @@ impl Coarse {
     }
 }
 
-/// The table by which steps are free.
+// Whether a craft is small from a state: its coarse table for few steps takes few words.
+fn is_small(g: &Settings, from: &State) -> bool {
+    let by = Coarse::reckoning(g);
+    by.words(by.worth(from, FEW_STEPS)) <= FEW_WORDS
+}
+
+/// The table by which steps are free, in coarser units where the craft is small.
 pub(crate) fn free_table<R: Threads + Sync, G, W>(
     crew: &Crew<'_, R, G, W>,
     alloc: Global,
@@ -114,12 +120,17 @@ pub(crate) fn free_table<R: Threads + Sync, G, W>(
 ) -> Result<PricedBound, WantMemory>
     ensures { IfOk result (IsFreeTable g.now) }
 {
-    let by = Reckoning::new(g, Pricing::FreeSteps, MOST_NEED);
+    let most_need = if is_small(g, from) {
+        COARSE_NEED
+    } else {
+        MOST_NEED
+    };
+    let by = Reckoning::new(g, Pricing::FreeSteps, most_need);
     table_of(crew, alloc, &by, from, MOST_LEFT)
 }
 
 /// The table by which steps are free, for a search of a quality that isn't all that counts. Of that it tells little beside
-/// the others, so there is none.
+/// the others, and a small craft is searched sooner than the table is filled: there is none.
 pub(crate) fn tables_below<R: Threads + Sync, G, W>(
     crew: &Crew<'_, R, G, W>,
     alloc: Global,
@@ -130,7 +141,7 @@ pub(crate) fn tables_below<R: Threads + Sync, G, W>(
     ensures { IfOk result (λ v. All (IsTable g.now) v.items) }
 {
     let mut filled = Vec::new(alloc);
-    if g.cap() <= target {
+    if g.cap() <= target || is_small(g, from) {
         return Ok(filled);
     }
     filled.push(free_table(crew, alloc, g, from)?)?;
